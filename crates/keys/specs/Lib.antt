@@ -1,0 +1,5 @@
+pub mod Badge
+pub mod Key
+pub mod Letters
+pub mod Name
+pub mod Points

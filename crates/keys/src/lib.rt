@@ -1,0 +1,18 @@
+// Keys: what says whose event it is. The engine above is written once, for every kind of key.
+mod badge;
+mod key;
+mod letters;
+mod name;
+mod points;
+
+pub use badge::Badge;
+pub use badge::BadgeKey;
+pub use key::Key;
+pub use key::keys_are_lawful;
+pub use letters::Letter;
+pub use letters::letter_of;
+pub use letters::table_is_sound;
+pub use name::Name;
+pub use name::NameKey;
+pub use name::acute_e_is_one_name;
+pub use name::one_name_is_respelled;
