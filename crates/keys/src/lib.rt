@@ -1,6 +1,7 @@
 // Keys: what says whose event it is. The engine above is written once, for every kind of key.
 mod badge;
 mod key;
+mod latin;
 mod letters;
 mod name;
 mod points;

@@ -1,0 +1,4 @@
+pub mod Decoding
+pub mod Logs
+pub mod Packing
+pub mod Words

@@ -1,0 +1,137 @@
+-- Logs and their readings. Assumes nothing.
+use mathlib.Core.Path.{_≡_, refl, sym, ap, subst, _∙_}
+use mathlib.Core.Bool.{Bool, true, false, cond}
+use mathlib.Core.Logic.{⊎-elim}
+use mathlib.Core.List.{List, [], _∷_, _++_, map, append-assoc}
+use Prim.Native.Nat.{ℕ, zero, suc, _+_, _-_, _*_, _<_, _≤_}
+use native.Mathlib.Omega.{arith}
+use lib.Dec.{eqb, ltb}
+use lib.ListN.{length, take, drop, length-append, length-take, length-drop, take-append-drop}
+use Rattle.events.specs.Record.{Fields, decoded}
+use Rattle.events.specs.Log.{Item, Told, told, first, tail-of, unread, reads, Reads-as, Whole-log}
+use Rattle.events.specs.Log.Reads-as.{ended, tail, next}
+use Rattle.events.specs.declared.log.Records.{Records}
+use Rattle.refusals.specs.declared.Refusal.the-variants.{Tail}
+use Rattle.std.proofs.shelf.Lists.{drop-all, take-at, drop-at, nil-from-length, length-take-le}
+use Rattle.std.proofs.shelf.Tests.{cond-true, cond-false, cond-both, eq-eqb, ne-eqb, lt-ltb, le-ltb, ltb-true, ltb-false, eqb-false, cases-lt, cases-eq}
+use Rattle.std.specs.Iters.{yields, drains}
+use Rattle.std.specs.Options.{mapped, Cases}
+use Rattle.std.specs.declared.option.Option.{Option}
+use Rattle.std.specs.declared.option.Option.the-variants.{None, Some}
+use Rattle.std.specs.declared.result.Result.the-variants.{Ok, Err}
+
+-- what the reader answers where no record is left
+pub first-short : (log : List ℕ) → length log < 24 → mapped told (tail-of (length log)) ≡ first log
+first-short log short =
+    cond-both (eqb (length log) 0) None (Some (Err Tail))
+    (λ (o : Option Item). mapped told o ≡ first log)
+    (λ none. sym (cond-true _ _ _ none))
+    (λ some. sym (cond-false _ _ _ some ∙ ap (λ (t : Told). Some t) (cond-true _ _ _ (lt-ltb (length log) 24 short))))
+
+-- nothing is left behind the end
+pub rest-short : (log : List ℕ) → length log < 24 → take (length log - length log) (drop (length log) log) ≡ drop 24 log
+rest-short log short =
+    let none : length log - length log ≡ 0 = omega arith in
+    ap (λ (n : ℕ). take n (drop (length log) log)) none ∙ sym (drop-all 24 log (omega arith))
+
+-- and fewer bytes are left, where it answers anything
+pub fewer-short : (log : List ℕ) (r : Option Item) → r ≡ tail-of (length log) → length log < 24 →
+  Cases r (Unit {0}) (λ _. Unit {0} × Unit {0} × (length (take (length log - length log) (drop (length log) log)) < length log))
+fewer-short log r e short =
+    let left : length (take (length log - length log) (drop (length log) log)) ≡ 0 = simp (length-take, length-drop) (omega arith) in
+    subst (λ (o : Option Item). Cases o (Unit {0}) (λ _. Unit {0} × Unit {0} × (length (take (length log - length log) (drop (length log) log)) < length log))) (sym e)
+    (cond-both (eqb (length log) 0) None (Some (Err Tail))
+    (λ (o : Option Item). Cases o (Unit {0}) (λ _. Unit {0} × Unit {0} × (length (take (length log - length log) (drop (length log) log)) < length log)))
+    (λ none. tt) (λ some. (tt, tt, let other = eqb-false (length log) 0 some in omega (arith, other, left))))
+
+-- the reading as a computation: n is more than enough turns
+abbrev items-of : Option Told → List Told → List Told
+items-of None more = []
+items-of (Some t) more = t ∷ more
+
+reading : ℕ → List ℕ → List Told
+reading zero log = []
+reading (suc n) log = items-of (first log) (reading n (drop 24 log))
+
+reading-none : (n : ℕ) → reading n [] ≡ []
+unfolding reading
+reading-none zero = refl
+reading-none (suc n) = refl
+
+first-tail : (log : List ℕ) → 1 ≤ length log → length log < 24 → first log ≡ Some (Err Tail)
+first-tail log some short =
+    cond-false _ _ _ (ne-eqb (length log) 0 (λ e. omega arith)) ∙ ap (λ (t : Told). Some t) (cond-true _ _ _ (lt-ltb (length log) 24 short))
+
+first-record : (log : List ℕ) → 24 ≤ length log → first log ≡ Some (Ok (decoded (take 24 log)))
+first-record log long =
+    cond-false _ _ _ (ne-eqb (length log) 0 (λ e. omega arith)) ∙ ap (λ (t : Told). Some t) (cond-false _ _ _ (le-ltb (length log) 24 long))
+
+is-reading : (log : List ℕ) (xs : List Told) → Reads-as log xs → (n : ℕ) → length log < n → xs ≡ reading n log
+unfolding reading
+is-reading log xs ended zero h = absurd (omega arith)
+is-reading log xs ended (suc n) h = refl
+is-reading log xs (tail bytes some short) zero h = absurd (omega arith)
+is-reading log xs (tail bytes some short) (suc n) h =
+    sym (ap (λ (o : Option Told). items-of o (reading n (drop 24 bytes))) (first-tail bytes some (omega arith)) ∙
+    ap (λ (l : List ℕ). Err Tail ∷ reading n l) (drop-all 24 bytes (omega arith)) ∙ ap (λ (l : List Told). Err Tail ∷ l) (reading-none n))
+is-reading log xs (next bytes rest items whole r) zero h = absurd (omega arith)
+is-reading log xs (next bytes rest items whole r) (suc n) h =
+    let size = length-append bytes rest in
+    let more = is-reading rest items r n (omega (arith, h)) in
+    sym (ap (λ (o : Option Told). items-of o (reading n (drop 24 (bytes ++ rest)))) (first-record (bytes ++ rest) (omega arith)) ∙
+    (λ i. Ok (decoded (take-at bytes rest 24 whole i)) ∷ reading n (drop-at bytes rest 24 whole i)) ∙ ap (λ (l : List Told). Ok (decoded bytes) ∷ l) (sym more))
+
+pub one-reading : (log : List ℕ) (xs ys : List Told) → Reads-as log xs → Reads-as log ys → xs ≡ ys
+one-reading log xs ys p q = is-reading log xs p (suc (length log)) (omega arith) ∙ sym (is-reading log ys q (suc (length log)) (omega arith))
+
+some-same : (t u : Told) → _≡_ {A = Option Told} (Some t) (Some u) → t ≡ u
+some-same t u e = cc
+
+never : (t : Told) → _≡_ {A = Option Told} (Some t) None → ⊥
+never t e = let z : _≡_ {A = ℕ} 0 1 = cc in omega arith
+
+-- one more item before a reading of what is left
+one-item : (log : List ℕ) (t : Told) (items : List Told) → Some t ≡ first log → Reads-as (drop 24 log) items → Reads-as log (t ∷ items)
+one-item log t items e r =
+    ⊎-elim
+    (λ (short : length log < 24).
+      ⊎-elim
+      (λ (none : length log ≡ 0). absurd (never t (e ∙ cond-true _ _ _ (eq-eqb (length log) 0 none))))
+      (λ (some : length log ≡ 0 → ⊥).
+        let is = some-same t (Err Tail) (e ∙ first-tail log (omega (arith, some)) short) in
+        let nothing = one-reading [] items [] (subst (λ (l : List ℕ). Reads-as l items) (drop-all 24 log (omega arith)) r) ended in
+        subst (λ (l : List Told). Reads-as log l) (sym (λ i. is i ∷ nothing i)) (tail log (omega (arith, some)) (omega arith)))
+      (cases-eq (length log) 0))
+    (λ (long : 24 ≤ length log).
+      let is = some-same t (Ok (decoded (take 24 log))) (e ∙ first-record log long) in
+      let size : length (take 24 log) ≡ 24 = length-take-le 24 log long in
+      subst (λ (l : List Told). Reads-as log l) (ap (λ (u : Told). u ∷ items) (sym is))
+      (subst (λ (l : List ℕ). Reads-as l (Ok (decoded (take 24 log)) ∷ items)) (take-append-drop 24 log) (next (take 24 log) (drop 24 log) items size r)))
+    (cases-lt (length log) 24)
+
+no-item : (log : List ℕ) → None ≡ first log → Reads-as log []
+no-item log e =
+    ⊎-elim (λ (none : length log ≡ 0). subst (λ (l : List ℕ). Reads-as l []) (sym (nil-from-length log none)) ended)
+    (λ (some : length log ≡ 0 → ⊥). absurd (never _ (sym (e ∙ cond-false _ _ _ (ne-eqb (length log) 0 some)))))
+    (cases-eq (length log) 0)
+
+given : (s : Records) (items : List Item) (t u : Records) → yields reads s items t → reads t None u → Reads-as (unread s) (map told items)
+given s [] t u same end = no-item (unread s) (end .0 ∙ ap (λ (r : Records). first (unread r)) (sym same))
+given s (x ∷ xs) t u run end =
+    let j = run .0 in
+    one-item (unread s) (told x) (map told xs) (run .1 .0) (subst (λ (l : List ℕ). Reads-as l (map told xs)) (run .1 .1) (given j xs t u (run .2) end))
+
+pieces : (front back : List ℕ) (xs ys : List Told) → Reads-as front xs → (n : ℕ) → length front ≡ 24 * n → Reads-as back ys → Reads-as (front ++ back) (xs ++ ys)
+pieces front back xs ys ended n e s = s
+pieces front back xs ys (tail bytes some short) n e s = absurd (omega (arith, e))
+pieces front back xs ys (next bytes rest items whole r) n e s =
+    let size = length-append bytes rest in
+    subst (λ (l : List ℕ). Reads-as l (Ok (decoded bytes) ∷ (items ++ ys))) (sym (append-assoc bytes rest back))
+    (next bytes (rest ++ back) (items ++ ys) whole (pieces rest back items ys r (n - 1) (omega (arith, e)) s))
+
+pub whole-log : Whole-log
+whole-log = record {
+  given = λ s items run. given s items (run .1 .0) (run .0) (run .1 .1) (run .1 .2);
+  one = one-reading;
+  pieces = λ n front back xs ys e r s. pieces front back xs ys r n e s;
+}

@@ -1,0 +1,64 @@
+// A badge log, record after record.
+ghost use mathlib.Core.Path.{_≡_};
+ghost use Prim.Native.Nat.{_-_};
+ghost use lib.ListN.{length};
+ghost use Rattle.events.specs.Log.{reads, tail-of, unread, Whole-log};
+use crate::event::Event;
+use crate::record::decode;
+use keys::Badge;
+use refusals::Refusal;
+
+// Reads a log from its front: an event for each record, and at 1 to 23 bytes a refusal, with which the log ends.
+#[derive(Drop)]
+pub struct Records<'a> {
+    rest: &'a [u8],
+}
+
+impl<'a> Records<'a> {
+    pub fn new(log: &'a [u8]) -> Records<'a>
+        ensures { λ r. ⌜ unread r ≡ now (log .entry) ⌝ }
+    {
+        Records { rest: log }
+    }
+}
+
+pub impl<'a> Iterator for Records<'a> as RecordsIterator {
+    type Item = Result<Event<Badge>, Refusal>;
+
+    ghost steps = { reads };
+
+    ghost ends = { λ _. Unit {0} };
+
+    ghost left = { λ s. length (unread s) };
+
+    fn next(&mut self) -> Option<Result<Event<Badge>, Refusal>> {
+        let log = self.rest;
+        match log.split_first_chunk::<24>() {
+            Some((record, rest)) => {
+                self.rest = rest;
+                Some(Ok(decode(record)))
+            }
+            None => {
+                self.rest = &log[log.len()..];
+                tail(log.len())
+            }
+        }
+    }
+}
+
+// What fewer bytes than a record tell.
+fn tail(len: usize) -> Option<Result<Event<Badge>, Refusal>>
+    ensures { λ r. ⌜ r ≡ tail-of len ⌝ }
+{
+    if len == 0 {
+        return None;
+    }
+    Some(Err(Refusal::Tail))
+}
+
+// What calls of `next` give until `None` is what the log reads as, and a log has one reading.
+pub fn logs_have_one_reading() -> u8
+    ensures { λ _. ⌜ Whole-log ⌝ }
+{
+    0
+}
