@@ -90,7 +90,7 @@ unfolding decoded encoded
 again f r =
     let four : map (λ _. 32) (f .readings) ≡ replicate 4 32 = same-width 32 (f .readings) ∙ ap (λ (k : ℕ). replicate k 32) (r .four) in
     let fit : Fitting widths (values f) =
-      (r .kind, (r .time, (r .badge, subst (λ (ws : List ℕ). Fitting ws (map bits-32 (f .readings))) four (fitting-readings (f .readings) (r .readings))))) in
+    (r .kind, (r .time, (r .badge, subst (λ (ws : List ℕ). Fitting ws (map bits-32 (f .readings))) four (fitting-readings (f .readings) (r .readings))))) in
     let m = packed widths (values f) in
     ap (λ (n : ℕ). fields-from (unpacked widths n)) (packed-unpacked (replicate 24 8) m ∙ mod-eq-of-lt (packed-below widths (values f) fit)) ∙
     ap fields-from (unpacked-packed widths (values f) fit) ∙
@@ -104,7 +104,7 @@ regroup a b c d e = sym (ap (λ (n : ℕ). n + e) (add-mul (a * b) d c ∙ ap (�
 
 -- the bytes in the middle of others are a field of the whole
 middle : (a w z : List ℕ) → All (λ b. b < 2 ^ 8) w → All (λ b. b < 2 ^ 8) z →
-  packed (eights (a ++ (w ++ z))) (a ++ (w ++ z)) / 2 ^ width (eights z) % 2 ^ width (eights w) ≡ packed (eights w) w
+    packed (eights (a ++ (w ++ z))) (a ++ (w ++ z)) / 2 ^ width (eights z) % 2 ^ width (eights w) ≡ packed (eights w) w
 middle a w z bw bz =
     let pa = packed (eights a) a in
     let pw = packed (eights w) w in
@@ -112,12 +112,12 @@ middle a w z bw bz =
     let lw = packed-below (eights w) w (fitting-bytes w bw) in
     let lz = packed-below (eights z) z (fitting-bytes z bz) in
     let last : packed (eights (w ++ z)) (w ++ z) ≡ pw * 2 ^ width (eights z) + pz =
-      ap (λ (ws : List ℕ). packed ws (w ++ z)) (map-append (λ _. 8) w z) ∙ packed-append (eights w) (eights z) w z (length-map w (λ _. 8)) in
+    ap (λ (ws : List ℕ). packed ws (w ++ z)) (map-append (λ _. 8) w z) ∙ packed-append (eights w) (eights z) w z (length-map w (λ _. 8)) in
     let size : 2 ^ width (eights (w ++ z)) ≡ 2 ^ width (eights w) * 2 ^ width (eights z) =
-      ap (λ (ws : List ℕ). 2 ^ width ws) (map-append (λ _. 8) w z) ∙ ap (λ (k : ℕ). 2 ^ k) (width-append (eights w) (eights z)) ∙ pow-add 2 (width (eights w)) (width (eights z)) in
+    ap (λ (ws : List ℕ). 2 ^ width ws) (map-append (λ _. 8) w z) ∙ ap (λ (k : ℕ). 2 ^ k) (width-append (eights w) (eights z)) ∙ pow-add 2 (width (eights w)) (width (eights z)) in
     let whole : packed (eights (a ++ (w ++ z))) (a ++ (w ++ z)) ≡ (pa * 2 ^ width (eights w) + pw) * 2 ^ width (eights z) + pz =
-      ap (λ (ws : List ℕ). packed ws (a ++ (w ++ z))) (map-append (λ _. 8) a (w ++ z)) ∙ packed-append (eights a) (eights (w ++ z)) a (w ++ z) (length-map a (λ _. 8)) ∙
-      (λ i. pa * size i + last i) ∙ regroup pa (2 ^ width (eights w)) (2 ^ width (eights z)) pw pz in
+    ap (λ (ws : List ℕ). packed ws (a ++ (w ++ z))) (map-append (λ _. 8) a (w ++ z)) ∙ packed-append (eights a) (eights (w ++ z)) a (w ++ z) (length-map a (λ _. 8)) ∙
+    (λ i. pa * size i + last i) ∙ regroup pa (2 ^ width (eights w)) (2 ^ width (eights z)) pw pz in
     ap (λ (n : ℕ). n / 2 ^ width (eights z) % 2 ^ width (eights w)) whole ∙
     ap (λ (n : ℕ). n % 2 ^ width (eights w)) (div-mul-add (pa * 2 ^ width (eights w) + pw) (2 ^ width (eights z)) pz lz) ∙
     mod-mul-add pa (2 ^ width (eights w)) pw lw
@@ -128,7 +128,7 @@ width-eights (x ∷ xs) = ap (λ (k : ℕ). 8 + k) (width-eights xs) ∙ omega a
 
 -- four bytes of a record, as a field of its number
 pub word-is : (bytes : List ℕ) (at : ℕ) → Record bytes → at + 4 ≤ 24 →
-  packed (eights (take 4 (drop at bytes))) (take 4 (drop at bytes)) ≡ packed (eights bytes) bytes / 2 ^ (8 * (20 - at)) % 2 ^ 32
+    packed (eights (take 4 (drop at bytes))) (take 4 (drop at bytes)) ≡ packed (eights bytes) bytes / 2 ^ (8 * (20 - at)) % 2 ^ 32
 word-is bytes at r h =
     let a = take at bytes in
     let w = take 4 (drop at bytes) in
@@ -161,9 +161,9 @@ word-at bytes at = packed (eights (take 4 (drop at bytes))) (take 4 (drop at byt
 
 -- the fields that the code puts together
 pub decoded-is : (bytes : List ℕ) → Record bytes → (high low badge : ℕ) (r0 r1 r2 r3 : ℤ) →
-  high ≡ word-at bytes 0 → low ≡ word-at bytes 4 → badge ≡ low % 2 ^ 28 →
-  r0 ≡ signed-32 (word-at bytes 8) → r1 ≡ signed-32 (word-at bytes 12) → r2 ≡ signed-32 (word-at bytes 16) → r3 ≡ signed-32 (word-at bytes 20) →
-  _≡_ {A = Fields} (record { kind = high / 2 ^ 28; time = high % 2 ^ 28 * 2 ^ 4 + low / 2 ^ 28; badge = badge; readings = r0 ∷ r1 ∷ r2 ∷ r3 ∷ [] }) (decoded bytes)
+    high ≡ word-at bytes 0 → low ≡ word-at bytes 4 → badge ≡ low % 2 ^ 28 →
+    r0 ≡ signed-32 (word-at bytes 8) → r1 ≡ signed-32 (word-at bytes 12) → r2 ≡ signed-32 (word-at bytes 16) → r3 ≡ signed-32 (word-at bytes 20) →
+    _≡_ {A = Fields} (record { kind = high / 2 ^ 28; time = high % 2 ^ 28 * 2 ^ 4 + low / 2 ^ 28; badge = badge; readings = r0 ∷ r1 ∷ r2 ∷ r3 ∷ [] }) (decoded bytes)
 unfolding decoded
 decoded-is bytes r high low badge r0 r1 r2 r3 high-word low-word badge-word w0 w1 w2 w3 =
     let n = packed (eights bytes) bytes in
@@ -183,7 +183,7 @@ next-byte : (bytes : List ℕ) (n at : ℕ) → at < length bytes → take (suc 
 next-byte bytes n at h = ap (take (suc n)) (drop-more bytes at 0 h)
 
 pub four-bytes : (bytes : List ℕ) (at : ℕ) → at + 4 ≤ length bytes →
-  take 4 (drop at bytes) ≡ getD bytes at 0 ∷ getD bytes (at + 1) 0 ∷ getD bytes (at + 2) 0 ∷ getD bytes (at + 3) 0 ∷ []
+    take 4 (drop at bytes) ≡ getD bytes at 0 ∷ getD bytes (at + 1) 0 ∷ getD bytes (at + 2) 0 ∷ getD bytes (at + 3) 0 ∷ []
 four-bytes bytes at h =
     let b = getD bytes in
     let two : at + 1 + 1 ≡ at + 2 = omega arith in
@@ -201,7 +201,7 @@ pub cast-is : (n : ℕ) → n < 2 ^ 32 → toZ w32 n ≡ signed-32 n
 cast-is n h =
     ⊎-elim (λ (l : n < 2 ^ 31). toZ-pos w32 n l ∙ sym (signed-low n l))
     (λ (g : 2 ^ 31 ≤ n).
-      ap (toZ w32) (omega arith) ∙ toZ-ofZ w32 (negsuc (2 ^ 32 - 1 - n)) (record { sfits = omega arith }) ∙ sym (signed-high n g h)) (cases-lt n (2 ^ 31))
+    ap (toZ w32) (omega arith) ∙ toZ-ofZ w32 (negsuc (2 ^ 32 - 1 - n)) (record { sfits = omega arith }) ∙ sym (signed-high n g h)) (cases-lt n (2 ^ 31))
 
 -- a badge that was made has the number that was given
 pub badge-number : (given made : ℕ) → Ok made ≡ badge-answer given → made ≡ given

@@ -8,41 +8,17 @@ use native.Mathlib.Omega.{arith}
 use lib.Dec.{eqb, ltb}
 use lib.ListN.{length, take, drop, length-append, length-take, length-drop, take-append-drop}
 use Rattle.events.specs.Record.{Fields, decoded}
-use Rattle.events.specs.Log.{Item, Told, told, first, tail-of, unread, reads, Reads-as, Whole-log}
+use Rattle.events.specs.Log.{Item, Told, told, first, unread, reads, Reads-as, Whole-log}
 use Rattle.events.specs.Log.Reads-as.{ended, tail, next}
 use Rattle.events.specs.declared.log.Records.{Records}
 use Rattle.refusals.specs.declared.Refusal.the-variants.{Tail}
 use Rattle.std.proofs.shelf.Lists.{drop-all, take-at, drop-at, nil-from-length, length-take-le}
 use Rattle.std.proofs.shelf.Tests.{cond-true, cond-false, cond-both, eq-eqb, ne-eqb, lt-ltb, le-ltb, ltb-true, ltb-false, eqb-false, cases-lt, cases-eq}
 use Rattle.std.specs.Iters.{yields, drains}
-use Rattle.std.specs.Options.{mapped, Cases}
+use Rattle.std.specs.Options.{mapped}
 use Rattle.std.specs.declared.option.Option.{Option}
 use Rattle.std.specs.declared.option.Option.the-variants.{None, Some}
 use Rattle.std.specs.declared.result.Result.the-variants.{Ok, Err}
-
--- what the reader answers where no record is left
-pub first-short : (log : List ℕ) → length log < 24 → mapped told (tail-of (length log)) ≡ first log
-first-short log short =
-    cond-both (eqb (length log) 0) None (Some (Err Tail))
-    (λ (o : Option Item). mapped told o ≡ first log)
-    (λ none. sym (cond-true _ _ _ none))
-    (λ some. sym (cond-false _ _ _ some ∙ ap (λ (t : Told). Some t) (cond-true _ _ _ (lt-ltb (length log) 24 short))))
-
--- nothing is left behind the end
-pub rest-short : (log : List ℕ) → length log < 24 → take (length log - length log) (drop (length log) log) ≡ drop 24 log
-rest-short log short =
-    let none : length log - length log ≡ 0 = omega arith in
-    ap (λ (n : ℕ). take n (drop (length log) log)) none ∙ sym (drop-all 24 log (omega arith))
-
--- and fewer bytes are left, where it answers anything
-pub fewer-short : (log : List ℕ) (r : Option Item) → r ≡ tail-of (length log) → length log < 24 →
-  Cases r (Unit {0}) (λ _. Unit {0} × Unit {0} × (length (take (length log - length log) (drop (length log) log)) < length log))
-fewer-short log r e short =
-    let left : length (take (length log - length log) (drop (length log) log)) ≡ 0 = simp (length-take, length-drop) (omega arith) in
-    subst (λ (o : Option Item). Cases o (Unit {0}) (λ _. Unit {0} × Unit {0} × (length (take (length log - length log) (drop (length log) log)) < length log))) (sym e)
-    (cond-both (eqb (length log) 0) None (Some (Err Tail))
-    (λ (o : Option Item). Cases o (Unit {0}) (λ _. Unit {0} × Unit {0} × (length (take (length log - length log) (drop (length log) log)) < length log)))
-    (λ none. tt) (λ some. (tt, tt, let other = eqb-false (length log) 0 some in omega (arith, other, left))))
 
 -- the reading as a computation: n is more than enough turns
 abbrev items-of : Option Told → List Told → List Told
@@ -95,18 +71,18 @@ one-item : (log : List ℕ) (t : Told) (items : List Told) → Some t ≡ first 
 one-item log t items e r =
     ⊎-elim
     (λ (short : length log < 24).
-      ⊎-elim
-      (λ (none : length log ≡ 0). absurd (never t (e ∙ cond-true _ _ _ (eq-eqb (length log) 0 none))))
-      (λ (some : length log ≡ 0 → ⊥).
-        let is = some-same t (Err Tail) (e ∙ first-tail log (omega (arith, some)) short) in
-        let nothing = one-reading [] items [] (subst (λ (l : List ℕ). Reads-as l items) (drop-all 24 log (omega arith)) r) ended in
-        subst (λ (l : List Told). Reads-as log l) (sym (λ i. is i ∷ nothing i)) (tail log (omega (arith, some)) (omega arith)))
-      (cases-eq (length log) 0))
+    ⊎-elim
+    (λ (none : length log ≡ 0). absurd (never t (e ∙ cond-true _ _ _ (eq-eqb (length log) 0 none))))
+    (λ (some : length log ≡ 0 → ⊥).
+    let is = some-same t (Err Tail) (e ∙ first-tail log (omega (arith, some)) short) in
+    let nothing = one-reading [] items [] (subst (λ (l : List ℕ). Reads-as l items) (drop-all 24 log (omega arith)) r) ended in
+    subst (λ (l : List Told). Reads-as log l) (sym (λ i. is i ∷ nothing i)) (tail log (omega (arith, some)) (omega arith)))
+    (cases-eq (length log) 0))
     (λ (long : 24 ≤ length log).
-      let is = some-same t (Ok (decoded (take 24 log))) (e ∙ first-record log long) in
-      let size : length (take 24 log) ≡ 24 = length-take-le 24 log long in
-      subst (λ (l : List Told). Reads-as log l) (ap (λ (u : Told). u ∷ items) (sym is))
-      (subst (λ (l : List ℕ). Reads-as l (Ok (decoded (take 24 log)) ∷ items)) (take-append-drop 24 log) (next (take 24 log) (drop 24 log) items size r)))
+    let is = some-same t (Ok (decoded (take 24 log))) (e ∙ first-record log long) in
+    let size : length (take 24 log) ≡ 24 = length-take-le 24 log long in
+    subst (λ (l : List Told). Reads-as log l) (ap (λ (u : Told). u ∷ items) (sym is))
+    (subst (λ (l : List ℕ). Reads-as l (Ok (decoded (take 24 log)) ∷ items)) (take-append-drop 24 log) (next (take 24 log) (drop 24 log) items size r)))
     (cases-lt (length log) 24)
 
 no-item : (log : List ℕ) → None ≡ first log → Reads-as log []

@@ -24,13 +24,13 @@ unpacked-low : (ws : List ℕ) (high n : ℕ) → unpacked ws (high * 2 ^ width 
 unpacked-low [] high n = refl
 unpacked-low (w ∷ ws) high n =
     let split : high * 2 ^ (w + width ws) + n ≡ (high * 2 ^ w) * 2 ^ width ws + n =
-      ap (λ (p : ℕ). p + n) (ap (λ (p : ℕ). high * p) (pow-add 2 w (width ws)) ∙ sym (mul-assoc high (2 ^ w) (2 ^ width ws))) in
+    ap (λ (p : ℕ). p + n) (ap (λ (p : ℕ). high * p) (pow-add 2 w (width ws)) ∙ sym (mul-assoc high (2 ^ w) (2 ^ width ws))) in
     let quotient : (high * 2 ^ (w + width ws) + n) / 2 ^ width ws ≡ n / 2 ^ width ws + high * 2 ^ w =
-      ap (λ (p : ℕ). p / 2 ^ width ws) (split ∙ add-comm ((high * 2 ^ w) * 2 ^ width ws) n) ∙ add-mul-div-right n (high * 2 ^ w) (pow-pos (width ws)) in
+    ap (λ (p : ℕ). p / 2 ^ width ws) (split ∙ add-comm ((high * 2 ^ w) * 2 ^ width ws) n) ∙ add-mul-div-right n (high * 2 ^ w) (pow-pos (width ws)) in
     let first : (high * 2 ^ (w + width ws) + n) / 2 ^ width ws % 2 ^ w ≡ n / 2 ^ width ws % 2 ^ w =
-      ap (λ (p : ℕ). p % 2 ^ w) quotient ∙ add-mul-mod-self-right (n / 2 ^ width ws) high (2 ^ w) in
+    ap (λ (p : ℕ). p % 2 ^ w) quotient ∙ add-mul-mod-self-right (n / 2 ^ width ws) high (2 ^ w) in
     let rest : unpacked ws (high * 2 ^ (w + width ws) + n) ≡ unpacked ws n =
-      ap (unpacked ws) split ∙ unpacked-low ws (high * 2 ^ w) n in
+    ap (unpacked ws) split ∙ unpacked-low ws (high * 2 ^ w) n in
     λ i. first i ∷ rest i
 
 pub unpacked-packed : (ws vs : List ℕ) → Fitting ws vs → unpacked ws (packed ws vs) ≡ vs
@@ -40,7 +40,7 @@ unpacked-packed (w ∷ ws) [] f = absurd f
 unpacked-packed (w ∷ ws) (v ∷ vs) f =
     let low = packed-below ws vs (f .1) in
     let first : (v * 2 ^ width ws + packed ws vs) / 2 ^ width ws % 2 ^ w ≡ v =
-      ap (λ (p : ℕ). p % 2 ^ w) (div-mul-add v (2 ^ width ws) (packed ws vs) low) ∙ mod-eq-of-lt (f .0) in
+    ap (λ (p : ℕ). p % 2 ^ w) (div-mul-add v (2 ^ width ws) (packed ws vs) low) ∙ mod-eq-of-lt (f .0) in
     let rest = unpacked-low ws v (packed ws vs) ∙ unpacked-packed ws vs (f .1) in
     λ i. first i ∷ rest i
 
@@ -66,6 +66,6 @@ packed-append (w ∷ ws) us [] xs e = absurd (omega (arith, e))
 packed-append (w ∷ ws) us (v ∷ vs) xs e =
     let rest = packed-append ws us vs xs (omega (arith, e)) in
     let high : v * 2 ^ width (ws ++ us) ≡ v * 2 ^ width ws * 2 ^ width us =
-      ap (λ (p : ℕ). v * 2 ^ p) (width-append ws us) ∙ ap (λ (p : ℕ). v * p) (pow-add 2 (width ws) (width us)) ∙ sym (mul-assoc v (2 ^ width ws) (2 ^ width us)) in
+    ap (λ (p : ℕ). v * 2 ^ p) (width-append ws us) ∙ ap (λ (p : ℕ). v * p) (pow-add 2 (width ws) (width us)) ∙ sym (mul-assoc v (2 ^ width ws) (2 ^ width us)) in
     (λ i. high i + rest i) ∙ sym (add-assoc (v * 2 ^ width ws * 2 ^ width us) (packed ws vs * 2 ^ width us) (packed us xs)) ∙
     ap (λ (p : ℕ). p + packed us xs) (sym (add-mul (v * 2 ^ width ws) (packed ws vs) (2 ^ width us)))

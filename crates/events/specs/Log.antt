@@ -39,10 +39,6 @@ pub data Reads-as : List ℕ → List Told → Type 0 where
 abbrev pub first : List ℕ → Option Told
 first log = cond (eqb (length log) 0) None (Some (cond (ltb (length log) 24) (Err Tail) (Ok (decoded (take 24 log)))))
 
--- fewer bytes than a record: none, or a tail
-abbrev pub tail-of : ℕ → Option Item
-tail-of len = cond (eqb len 0) None (Some (Err Tail))
-
 abbrev pub unread : Records → List ℕ
 unread s = s .rest .now
 

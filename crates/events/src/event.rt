@@ -56,7 +56,9 @@ pub impl fmt::Display for Event<Badge> as EventDisplay {
         let kind = KindText { kind: self.kind };
         let time = self.time;
         let badge = self.key.number();
-        let readings = ReadingsText { readings: self.readings };
+        let readings = ReadingsText {
+            readings: self.readings,
+        };
         write!(f, "{kind} {time} {badge} {readings}")
     }
 }

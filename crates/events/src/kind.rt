@@ -5,8 +5,22 @@ ghost use Rattle.events.specs.Kind.{word-of, Words-differ};
 ghost use Rattle.std.specs.Options.{mapped};
 
 const WORDS: [&str; 16] = [
-    "BADGEIN", "BADGEOUT", "SEATON", "SEATOFF", "START", "STOP", "STROKE", "SPLIT", "STRAPON", "STRAPOFF", "PAUSE", "RESUME",
-    "DOORIN", "DOOROUT", "FAULT", "CLEANED",
+    "BADGEIN",
+    "BADGEOUT",
+    "SEATON",
+    "SEATOFF",
+    "START",
+    "STOP",
+    "STROKE",
+    "SPLIT",
+    "STRAPON",
+    "STRAPOFF",
+    "PAUSE",
+    "RESUME",
+    "DOORIN",
+    "DOOROUT",
+    "FAULT",
+    "CLEANED",
 ];
 
 // The word for a kind; a number over 15 is no kind and has none.

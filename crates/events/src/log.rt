@@ -2,7 +2,7 @@
 ghost use mathlib.Core.Path.{_≡_};
 ghost use Prim.Native.Nat.{_-_};
 ghost use lib.ListN.{length};
-ghost use Rattle.events.specs.Log.{reads, tail-of, unread, Whole-log};
+ghost use Rattle.events.specs.Log.{reads, unread, Whole-log};
 use crate::event::Event;
 use crate::record::decode;
 use keys::Badge;
@@ -38,22 +38,13 @@ pub impl<'a> Iterator for Records<'a> as RecordsIterator {
                 self.rest = rest;
                 Some(Ok(decode(record)))
             }
+            None if log.is_empty() => None,
             None => {
                 self.rest = &log[log.len()..];
-                tail(log.len())
+                Some(Err(Refusal::Tail))
             }
         }
     }
-}
-
-// What fewer bytes than a record tell.
-fn tail(len: usize) -> Option<Result<Event<Badge>, Refusal>>
-    ensures { λ r. ⌜ r ≡ tail-of len ⌝ }
-{
-    if len == 0 {
-        return None;
-    }
-    Some(Err(Refusal::Tail))
 }
 
 // What calls of `next` give until `None` is what the log reads as, and a log has one reading.

@@ -17,8 +17,15 @@ pub fn decode(bytes: &[u8; 24]) -> Event<Badge>
 {
     let high = word(bytes, 0);
     let low = word(bytes, 4);
-    let Ok(key) = Badge::new(low % (1 << 28)) else { unreachable() };
-    let readings = [reading(bytes, 8), reading(bytes, 12), reading(bytes, 16), reading(bytes, 20)];
+    let Ok(key) = Badge::new(low % (1 << 28)) else {
+        unreachable()
+    };
+    let readings = [
+        reading(bytes, 8),
+        reading(bytes, 12),
+        reading(bytes, 16),
+        reading(bytes, 20),
+    ];
     Event {
         kind: (high >> 28) as u8,
         time: (high % (1 << 28)) * 16 + (low >> 28),

@@ -17,5 +17,5 @@ returns c =
     let f3 : SFits w32 (c .reading-4 .result) = search needs in
     let badge : c .in-Ok .key .number ≡ c .word-low .result % 2 ^ 28 = badge-number _ _ (c .in-Ok .ensures tt) in
     let is = decoded-is (c .args .bytes .now) whole (c .word-high .result) (c .word-low .result) (c .in-Ok .key .number) _ _ _ _ (c .word-high .ensures) (c .word-low .ensures) badge
-      (toZ-ofZ w32 _ f0 ∙ c .reading .ensures) (toZ-ofZ w32 _ f1 ∙ c .reading-2 .ensures) (toZ-ofZ w32 _ f2 ∙ c .reading-3 .ensures) (toZ-ofZ w32 _ f3 ∙ c .reading-4 .ensures) in
+    (toZ-ofZ w32 _ f0 ∙ c .reading .ensures) (toZ-ofZ w32 _ f1 ∙ c .reading-2 .ensures) (toZ-ofZ w32 _ f2 ∙ c .reading-3 .ensures) (toZ-ofZ w32 _ f3 ∙ c .reading-4 .ensures) in
     record { fields = is; back = ap encoded is ∙ back (c .args .bytes .now) whole }
