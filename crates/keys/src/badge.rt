@@ -45,7 +45,7 @@ pub impl Key for Badge as BadgeKey {
     ghost shelved = { λ b. b .number % 16 };
 
     fn same(&self, other: &Badge) -> bool {
-        self.number == other.number
+        other.number == self.number
     }
 
     fn shelf(&self) -> u8 {

@@ -144,7 +144,7 @@ pub impl Key for Name as NameKey {
     ghost shelved = { λ n. shelf-of (held (n .spelling)) };
 
     fn same(&self, other: &Name) -> bool {
-        self.identity.as_slice() == other.identity.as_slice()
+        other.identity.as_slice() == self.identity.as_slice()
     }
 
     fn shelf(&self) -> u8 {
