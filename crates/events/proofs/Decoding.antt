@@ -14,7 +14,7 @@ use lib.ListN.{length, getD, replicate, take, drop, length-take, length-drop, ta
 use lib.Pow.{pow-add, mod-mod-pow}
 use Rattle.events.proofs.Packing.{packed-below, unpacked-packed, packed-unpacked, unpacked-fits, packed-append, width-append}
 use Rattle.events.specs.Bits.{width, packed, unpacked, Fitting, eights}
-use Rattle.events.specs.Record.{Fields, widths, signed-32, bits-32, fields-from, values, decoded, encoded, Record, Reading, Recordable, Inverse}
+use Rattle.events.specs.Record.{Fields, widths, signed-32, bits-32, fields-from, values-of, values-in, decoded, encoded, Record, Reading, Recordable, Inverse}
 use Rattle.std.proofs.shelf.Bits.{div-mul-add, mod-mul-add, field-of, shr-shr, mod-pow-add}
 use Rattle.std.proofs.shelf.Elements.{all-take, all-drop, all-from-getD}
 use Rattle.std.proofs.shelf.Lists.{map-append, drop-more}
@@ -59,7 +59,7 @@ record-below bytes r =
     subst (λ (l : List ℕ). packed (eights bytes) bytes < 2 ^ width l) (same-width 8 bytes ∙ ap (λ (n : ℕ). replicate n 8) (r .0))
     (packed-below (eights bytes) bytes (fitting-bytes bytes (r .1)))
 
-values-from : (n : ℕ) → values (fields-from (unpacked widths n)) ≡ unpacked widths n
+values-from : (n : ℕ) → values-of (fields-from (unpacked widths n)) ≡ unpacked widths n
 values-from n =
     let f = unpacked-fits widths n in
     let a = bits-signed (n / 2 ^ 96 % 2 ^ 32) (f .1 .1 .1 .0) in
@@ -69,7 +69,7 @@ values-from n =
     λ i. n / 2 ^ 188 % 2 ^ 4 ∷ n / 2 ^ 156 % 2 ^ 32 ∷ n / 2 ^ 128 % 2 ^ 28 ∷ a i ∷ b i ∷ c i ∷ d i ∷ []
 
 pub back : (bytes : List ℕ) → Record bytes → encoded (decoded bytes) ≡ bytes
-unfolding decoded encoded
+unfolding values-in encoded
 back bytes r =
     let n = packed (eights bytes) bytes in
     let eight : eights bytes ≡ replicate 24 8 = same-width 8 bytes ∙ ap (λ (k : ℕ). replicate k 8) (r .0) in
@@ -81,20 +81,30 @@ fitting-readings : (rs : List ℤ) → All Reading rs → Fitting (map (λ _. 32
 fitting-readings [] a = tt
 fitting-readings (r ∷ rs) a = (bits-below r (a .0), fitting-readings rs (a .1))
 
-readings-back : (rs : List ℤ) → All Reading rs → map signed-32 (map bits-32 rs) ≡ rs
-readings-back [] a = refl
-readings-back (r ∷ rs) a = let first = signed-bits r (a .0) in let rest = readings-back rs (a .1) in λ i. first i ∷ rest i
+readings-back : (rs : List ℤ) → length rs ≡ 4 → All Reading rs →
+  signed-32 (getD (map bits-32 rs) 0 0) ∷ signed-32 (getD (map bits-32 rs) 1 0) ∷ signed-32 (getD (map bits-32 rs) 2 0) ∷ signed-32 (getD (map bits-32 rs) 3 0) ∷ [] ≡ rs
+readings-back [] four a = absurd (omega (arith, four))
+readings-back (p ∷ []) four a = absurd (omega (arith, four))
+readings-back (p ∷ q ∷ []) four a = absurd (omega (arith, four))
+readings-back (p ∷ q ∷ r ∷ []) four a = absurd (omega (arith, four))
+readings-back (p ∷ q ∷ r ∷ s ∷ []) four a =
+    let p′ = signed-bits p (a .0) in
+    let q′ = signed-bits q (a .1 .0) in
+    let r′ = signed-bits r (a .1 .1 .0) in
+    let s′ = signed-bits s (a .1 .1 .1 .0) in
+    λ i. p′ i ∷ q′ i ∷ r′ i ∷ s′ i ∷ []
+readings-back (p ∷ q ∷ r ∷ s ∷ t ∷ rs) four a = absurd (omega (arith, four))
 
 pub again : (f : Fields) → Recordable f → decoded (encoded f) ≡ f
-unfolding decoded encoded
+unfolding values-in encoded
 again f r =
     let four : map (λ _. 32) (f .readings) ≡ replicate 4 32 = same-width 32 (f .readings) ∙ ap (λ (k : ℕ). replicate k 32) (r .four) in
-    let fit : Fitting widths (values f) =
+    let fit : Fitting widths (values-of f) =
     (r .kind, (r .time, (r .badge, subst (λ (ws : List ℕ). Fitting ws (map bits-32 (f .readings))) four (fitting-readings (f .readings) (r .readings))))) in
-    let m = packed widths (values f) in
-    ap (λ (n : ℕ). fields-from (unpacked widths n)) (packed-unpacked (replicate 24 8) m ∙ mod-eq-of-lt (packed-below widths (values f) fit)) ∙
-    ap fields-from (unpacked-packed widths (values f) fit) ∙
-    ap (λ (rs : List ℤ). record { kind = f .kind; time = f .time; badge = f .badge; readings = rs }) (readings-back (f .readings) (r .readings))
+    let m = packed widths (values-of f) in
+    ap (λ (n : ℕ). fields-from (unpacked widths n)) (packed-unpacked (replicate 24 8) m ∙ mod-eq-of-lt (packed-below widths (values-of f) fit)) ∙
+    ap fields-from (unpacked-packed widths (values-of f) fit) ∙
+    ap (λ (rs : List ℤ). record { kind = f .kind; time = f .time; badge = f .badge; readings = rs }) (readings-back (f .readings) (r .four) (r .readings))
 
 pub inverse : Inverse
 inverse = (back, again)
@@ -142,41 +152,43 @@ word-is bytes at r h =
     let sz : width (eights z) ≡ 8 * (20 - at) = width-eights z ∙ ap (λ (k : ℕ). 8 * k) lz in
     sym (middle a w z bw bz) ∙ (λ i. packed (eights (parts i)) (parts i) / 2 ^ sz i % 2 ^ sw i)
 
--- two words of a record hold kind, time and badge
-module _ (n : ℕ) where
-  kind-is : n / 2 ^ 160 % 2 ^ 32 / 2 ^ 28 ≡ n / 2 ^ 188 % 2 ^ 4
-  kind-is = field-of (n / 2 ^ 160) 4 28 ∙ ap (λ (m : ℕ). m % 2 ^ 4) (shr-shr n 160 28)
-
-  time-is : (n / 2 ^ 160 % 2 ^ 32) % 2 ^ 28 * 2 ^ 4 + n / 2 ^ 128 % 2 ^ 32 / 2 ^ 28 ≡ n / 2 ^ 156 % 2 ^ 32
-  time-is =
-      let high = mod-mod-pow (n / 2 ^ 160) 4 28 ∙ ap (λ (m : ℕ). m % 2 ^ 28) (sym (shr-shr n 156 4)) in
-      let low = field-of (n / 2 ^ 128) 4 28 ∙ ap (λ (m : ℕ). m % 2 ^ 4) (shr-shr n 128 28) in
-      (λ i. high i * 2 ^ 4 + low i) ∙ sym (mod-pow-add (n / 2 ^ 156) 28 4)
-
-  badge-is : n / 2 ^ 128 % 2 ^ 32 % 2 ^ 28 ≡ n / 2 ^ 128 % 2 ^ 28
-  badge-is = mod-mod-pow (n / 2 ^ 128) 4 28
-
+-- four bytes of a record from `at` on, as one number
 abbrev word-at : List ℕ → ℕ → ℕ
 word-at bytes at = packed (eights (take 4 (drop at bytes))) (take 4 (drop at bytes))
 
--- the fields that the code puts together
-pub decoded-is : (bytes : List ℕ) → Record bytes → (high low badge : ℕ) (r0 r1 r2 r3 : ℤ) →
-    high ≡ word-at bytes 0 → low ≡ word-at bytes 4 → badge ≡ low % 2 ^ 28 →
-    r0 ≡ signed-32 (word-at bytes 8) → r1 ≡ signed-32 (word-at bytes 12) → r2 ≡ signed-32 (word-at bytes 16) → r3 ≡ signed-32 (word-at bytes 20) →
-    _≡_ {A = Fields} (record { kind = high / 2 ^ 28; time = high % 2 ^ 28 * 2 ^ 4 + low / 2 ^ 28; badge = badge; readings = r0 ∷ r1 ∷ r2 ∷ r3 ∷ [] }) (decoded bytes)
-unfolding decoded
-decoded-is bytes r high low badge r0 r1 r2 r3 high-word low-word badge-word w0 w1 w2 w3 =
-    let n = packed (eights bytes) bytes in
-    let h : high ≡ n / 2 ^ 160 % 2 ^ 32 = high-word ∙ word-is bytes 0 r (omega arith) in
-    let l : low ≡ n / 2 ^ 128 % 2 ^ 32 = low-word ∙ word-is bytes 4 r (omega arith) in
-    let k = ap (λ (m : ℕ). m / 2 ^ 28) h ∙ kind-is n in
-    let t : high % 2 ^ 28 * 2 ^ 4 + low / 2 ^ 28 ≡ n / 2 ^ 156 % 2 ^ 32 = (λ i. h i % 2 ^ 28 * 2 ^ 4 + l i / 2 ^ 28) ∙ time-is n in
-    let b = badge-word ∙ ap (λ (m : ℕ). m % 2 ^ 28) l ∙ badge-is n in
-    let a0 = w0 ∙ ap signed-32 (word-is bytes 8 r (omega arith)) in
-    let a1 = w1 ∙ ap signed-32 (word-is bytes 12 r (omega arith)) in
-    let a2 = w2 ∙ ap signed-32 (word-is bytes 16 r (omega arith)) in
-    let a3 = w3 ∙ ap signed-32 (word-is bytes 20 r (omega arith)) in
-    λ i. record { kind = k i; time = t i; badge = b i; readings = a0 i ∷ a1 i ∷ a2 i ∷ a3 i ∷ [] }
+-- the fields by the words that they stand in
+module _ (bytes : List ℕ) (r : Record bytes) where
+  abbrev n : ℕ
+  n = packed (eights bytes) bytes
+
+  high : word-at bytes 0 ≡ n / 2 ^ 160 % 2 ^ 32
+  high = word-is bytes 0 r (omega arith)
+
+  low : word-at bytes 4 ≡ n / 2 ^ 128 % 2 ^ 32
+  low = word-is bytes 4 r (omega arith)
+
+  pub kind-is : word-at bytes 0 / 2 ^ 28 ≡ getD (values-in bytes) 0 0
+  unfolding values-in
+  kind-is = ap (λ (m : ℕ). m / 2 ^ 28) high ∙ field-of (n / 2 ^ 160) 4 28 ∙ ap (λ (m : ℕ). m % 2 ^ 4) (shr-shr n 160 28)
+
+  pub time-is : word-at bytes 0 % 2 ^ 28 * 2 ^ 4 + word-at bytes 4 / 2 ^ 28 ≡ getD (values-in bytes) 1 0
+  unfolding values-in
+  time-is =
+      let front = ap (λ (m : ℕ). m % 2 ^ 28) high ∙ mod-mod-pow (n / 2 ^ 160) 4 28 ∙ ap (λ (m : ℕ). m % 2 ^ 28) (sym (shr-shr n 156 4)) in
+      let back′ = ap (λ (m : ℕ). m / 2 ^ 28) low ∙ field-of (n / 2 ^ 128) 4 28 ∙ ap (λ (m : ℕ). m % 2 ^ 4) (shr-shr n 128 28) in
+      (λ i. front i * 2 ^ 4 + back′ i) ∙ sym (mod-pow-add (n / 2 ^ 156) 28 4)
+
+  pub badge-is : word-at bytes 4 % 2 ^ 28 ≡ getD (values-in bytes) 2 0
+  unfolding values-in
+  badge-is = ap (λ (m : ℕ). m % 2 ^ 28) low ∙ mod-mod-pow (n / 2 ^ 128) 4 28
+
+  pub reading-is : (i : ℕ) → i < 4 → word-at bytes (8 + 4 * i) ≡ getD (values-in bytes) (3 + i) 0
+  unfolding values-in
+  reading-is zero h = word-is bytes 8 r (omega arith)
+  reading-is (suc zero) h = word-is bytes 12 r (omega arith)
+  reading-is (suc (suc zero)) h = word-is bytes 16 r (omega arith)
+  reading-is (suc (suc (suc zero))) h = word-is bytes 20 r (omega arith)
+  reading-is (suc (suc (suc (suc i)))) h = absurd (omega (arith, h))
 
 -- a byte after the other
 next-byte : (bytes : List ℕ) (n at : ℕ) → at < length bytes → take (suc n) (drop at bytes) ≡ getD bytes at 0 ∷ take n (drop (at + 1) bytes)

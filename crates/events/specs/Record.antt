@@ -6,7 +6,7 @@ use mathlib.Core.List.{List, [], _∷_, map}
 use Prim.Native.Nat.{ℕ, _-_, _^_, _<_}
 use lib.Dec.{ltb}
 use lib.IntN.{ℤ, pos, negsuc, _-ℤ_}
-use lib.ListN.{length, getD, drop, replicate}
+use lib.ListN.{length, getD, replicate}
 use Rattle.events.specs.Bits.{packed, unpacked, Fitting, eights}
 use Rattle.events.specs.declared.event.Event.{Event}
 use Rattle.keys.specs.declared.badge.Badge.{Badge}
@@ -34,19 +34,27 @@ abbrev pub bits-32 : ℤ → ℕ
 bits-32 (pos n) = n
 bits-32 (negsuc n) = 2 ^ 32 - 1 - n
 
--- the fields by their values in a record, and back
+-- the fields by their values, and back
 abbrev pub fields-from : List ℕ → Fields
-fields-from vs = record { kind = getD vs 0 0; time = getD vs 1 0; badge = getD vs 2 0; readings = map signed-32 (drop 3 vs) }
+fields-from vs = record {
+  kind = getD vs 0 0;
+  time = getD vs 1 0;
+  badge = getD vs 2 0;
+  readings = signed-32 (getD vs 3 0) ∷ signed-32 (getD vs 4 0) ∷ signed-32 (getD vs 5 0) ∷ signed-32 (getD vs 6 0) ∷ [];
+}
 
-abbrev pub values : Fields → List ℕ
-values f = f .kind ∷ f .time ∷ f .badge ∷ map bits-32 (f .readings)
+abbrev pub values-of : Fields → List ℕ
+values-of f = f .kind ∷ f .time ∷ f .badge ∷ map bits-32 (f .readings)
 
--- a record, by its bytes as one number
-unfoldable pub decoded : List ℕ → Fields
-decoded bytes = fields-from (unpacked widths (packed (eights bytes) bytes))
+-- the values of the fields in a record, by its bytes as one number
+unfoldable pub values-in : List ℕ → List ℕ
+values-in bytes = unpacked widths (packed (eights bytes) bytes)
+
+abbrev pub decoded : List ℕ → Fields
+decoded bytes = fields-from (values-in bytes)
 
 unfoldable pub encoded : Fields → List ℕ
-encoded f = unpacked (replicate 24 8) (packed widths (values f))
+encoded f = unpacked (replicate 24 8) (packed widths (values-of f))
 
 -- 24 bytes
 abbrev pub Record : List ℕ → Type 0

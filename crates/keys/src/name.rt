@@ -2,11 +2,12 @@
 ghost use mathlib.Core.Bool.{true};
 ghost use mathlib.Core.List.{List};
 ghost use mathlib.Core.Path.{_≡_};
-ghost use Prim.Native.Nat.{ℕ, _≤_, _%_, _*_, _^_};
+ghost use Prim.Native.Nat.{ℕ, _≤_, _<_};
 ghost use lib.ListN.{length};
 ghost use Rattle.keys.specs.Name.{allowed, all-allowed, name-answer, identity-of, shelf-of, same-points, One-name, Acute-e};
 ghost use Rattle.keys.specs.Points.{held};
 ghost use Rattle.refusals.specs.Answers.{answered};
+ghost use Rattle.std.specs.Options.{Cases};
 ghost use Rattle.std.specs.shelf.Lists.{sum};
 ghost use Rattle.std.specs.shelf.Text.{decodes};
 use crate::key::Key;
@@ -51,14 +52,10 @@ impl Name {
     pub fn from_text(text: &str) -> Result<Name, Refusal>
         ensures { λ r. ⌜ answered (λ n. held (n .spelling)) r ≡ name-answer (decodes (now (text .entry))) ⌝ }
     {
-        let mut points: Points<24> = Points::new();
-        for point in text.chars() {
-            if points.is_full() {
-                return Err(Refusal::NameLength);
-            }
-            points.push(u32::from(point));
+        match points_of(text) {
+            Some(points) => Name::new(points.as_slice()),
+            None => Err(Refusal::NameLength),
         }
-        Name::new(points.as_slice())
     }
 
     // The code points of the name, as they were given.
@@ -74,6 +71,20 @@ impl Name {
     {
         self.identity.as_slice()
     }
+}
+
+// The code points of a text, if there are at most 24.
+fn points_of(text: &str) -> Option<Points<24>>
+    ensures { λ r. ⌜ Cases r (24 < length (decodes (now (text .entry)))) (λ p. held p ≡ decodes (now (text .entry))) ⌝ }
+{
+    let mut points = Points::new();
+    for point in text.chars() {
+        if points.is_full() {
+            return None;
+        }
+        points.push(u32::from(point));
+    }
+    Some(points)
 }
 
 fn is_allowed(point: u32) -> bool
@@ -134,6 +145,12 @@ fn total(points: &[u32]) -> u64
     total
 }
 
+fn have_equal(a: &Points<48>, b: &Points<48>) -> bool
+    ensures { λ r. ⌜ r ≡ same-points (held (now (a .entry))) (held (now (b .entry))) ⌝ }
+{
+    a.as_slice() == b.as_slice()
+}
+
 pub impl Key for Name as NameKey {
     ghost Identity = { List ℕ };
 
@@ -144,7 +161,7 @@ pub impl Key for Name as NameKey {
     ghost shelved = { λ n. shelf-of (held (n .spelling)) };
 
     fn same(&self, other: &Name) -> bool {
-        other.identity.as_slice() == self.identity.as_slice()
+        have_equal(&self.identity, &other.identity)
     }
 
     fn shelf(&self) -> u8 {

@@ -1,7 +1,7 @@
 use mathlib.Core.Path.{_≡_}
 use mathlib.Core.List.{_++_}
 use Rattle.keys.specs.Points.{held}
-use Rattle.keys.proofs.name.Name.from_text.Given as given
+use Rattle.keys.proofs.name.points_of.Given as given
 use Rattle.std.specs.Parts.{chars-rest}
 use Rattle.std.specs.Text.{Utf8}
 use Rattle.std.specs.shelf.Text.{decodes}

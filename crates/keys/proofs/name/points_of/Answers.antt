@@ -3,12 +3,11 @@ use mathlib.Core.List.{List, [], _∷_, _++_}
 use Prim.Native.Nat.{ℕ}
 use borrow.Author.Needs.{needs}
 use Rattle.keys.proofs.Decoded.{length-held, one-more, all-kept, too-long}
-use Rattle.keys.specs.Name.{name-answer}
 use Rattle.keys.specs.Points.{held}
 use Rattle.std.proofs.shelf.Text.{utf8-past-char}
 use Rattle.std.specs.Parts.{chars-rest}
 use Rattle.std.specs.shelf.Text.{decodes}
-use Rattle.keys.proofs.name.Name.from_text.Needs as need
+use Rattle.keys.proofs.name.points_of.Needs as need
 
 pub returns-then-is-full : need.returns-then-is-full
 returns-then-is-full c =
@@ -33,4 +32,4 @@ loop-point-again c =
 pub returns : need.returns
 returns c =
     let inv = c .loop-point .inv in
-    c .new .ensures ∙ ap name-answer (c .as-slice .ensures ∙ all-kept (c .args .text .now) (held (c .loop-point .points)) (chars-rest (c .loop-point .point-iterator)) (c .in-None .ensures tt .steps .0 .0) (inv .3))
+    all-kept (c .args .text .now) (held (c .loop-point .points)) (chars-rest (c .loop-point .point-iterator)) (c .in-None .ensures tt .steps .0 .0) (inv .3)
