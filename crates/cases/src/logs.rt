@@ -10,8 +10,30 @@ use std::test::*;
 
 // BADGEOUT at 15, badge 4711, readings 1, -1, 2147483647 and -2147483648.
 const RECORD: [u8; 24] = [
-    0x10, 0x00, 0x00, 0x00, 0xF0, 0x00, 0x12, 0x67, 0x00, 0x00, 0x00, 0x01, 0xFF, 0xFF, 0xFF, 0xFF, 0x7F, 0xFF, 0xFF, 0xFF,
-    0x80, 0x00, 0x00, 0x00,
+    0x10,
+    0x00,
+    0x00,
+    0x00,
+    0xF0,
+    0x00,
+    0x12,
+    0x67,
+    0x00,
+    0x00,
+    0x00,
+    0x01,
+    0xFF,
+    0xFF,
+    0xFF,
+    0xFF,
+    0x7F,
+    0xFF,
+    0xFF,
+    0xFF,
+    0x80,
+    0x00,
+    0x00,
+    0x00,
 ];
 
 #[test]
@@ -77,7 +99,10 @@ fn logs_have_records_and_tails() -> Result<(), Fail> {
 #[test]
 fn events_are_written_out(rt: LibcRuntime) -> Result<(), Fail> {
     let event = decode(&RECORD);
-    check_eq(event.to_string(rt.alloc())?.as_str(), "BADGEOUT 15 4711 1 -1 2147483647 -2147483648")?;
+    check_eq(
+        event.to_string(rt.alloc())?.as_str(),
+        "BADGEOUT 15 4711 1 -1 2147483647 -2147483648",
+    )?;
     let key = Badge::new(7)?;
     let strange = Event {
         kind: 16,

@@ -41,7 +41,10 @@ fn compare(rt: &LibcRuntime) -> Result<(), AnyError> {
         }
     }
     let letters = published.len();
-    println!(rt, "{letters} letters, {agreed} code points as published, {refused} refused")?;
+    println!(
+        rt,
+        "{letters} letters, {agreed} code points as published, {refused} refused"
+    )?;
     Ok(())
 }
 

@@ -1,12 +1,11 @@
 -- Encoding and decoding a record. Assumes nothing.
 use mathlib.Core.Path.{_≡_, refl, sym, ap, subst, _∙_}
-use mathlib.Core.Bool.{true, false}
 use mathlib.Core.Logic.{⊎-elim}
 use mathlib.Core.List.{List, [], _∷_, _++_, map}
 use Prim.Native.Nat.{ℕ, zero, suc, _+_, _-_, _*_, _/_, _%_, _^_, _<_, _≤_}
 use native.Mathlib.Nat.{mod-eq-of-lt, add-mul, mul-assoc, add-assoc}
 use native.Mathlib.Omega.{arith}
-use lib.Dec.{leb, ltb}
+use lib.Dec.{leb}
 use mir.Syntax.{w32}
 use mir.Val.{toZ}
 use lib.IntN.{ℤ, pos, negsuc}
@@ -82,7 +81,7 @@ fitting-readings [] a = tt
 fitting-readings (r ∷ rs) a = (bits-below r (a .0), fitting-readings rs (a .1))
 
 readings-back : (rs : List ℤ) → length rs ≡ 4 → All Reading rs →
-  signed-32 (getD (map bits-32 rs) 0 0) ∷ signed-32 (getD (map bits-32 rs) 1 0) ∷ signed-32 (getD (map bits-32 rs) 2 0) ∷ signed-32 (getD (map bits-32 rs) 3 0) ∷ [] ≡ rs
+    signed-32 (getD (map bits-32 rs) 0 0) ∷ signed-32 (getD (map bits-32 rs) 1 0) ∷ signed-32 (getD (map bits-32 rs) 2 0) ∷ signed-32 (getD (map bits-32 rs) 3 0) ∷ [] ≡ rs
 readings-back [] four a = absurd (omega (arith, four))
 readings-back (p ∷ []) four a = absurd (omega (arith, four))
 readings-back (p ∷ q ∷ []) four a = absurd (omega (arith, four))

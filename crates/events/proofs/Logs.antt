@@ -1,21 +1,18 @@
 -- Logs and their readings. Assumes nothing.
 use mathlib.Core.Path.{_≡_, refl, sym, ap, subst, _∙_}
-use mathlib.Core.Bool.{Bool, true, false, cond}
 use mathlib.Core.Logic.{⊎-elim}
 use mathlib.Core.List.{List, [], _∷_, _++_, map, append-assoc}
 use Prim.Native.Nat.{ℕ, zero, suc, _+_, _-_, _*_, _<_, _≤_}
 use native.Mathlib.Omega.{arith}
-use lib.Dec.{eqb, ltb}
-use lib.ListN.{length, take, drop, length-append, length-take, length-drop, take-append-drop}
-use Rattle.events.specs.Record.{Fields, decoded}
+use lib.ListN.{length, take, drop, length-append, take-append-drop}
+use Rattle.events.specs.Record.{decoded}
 use Rattle.events.specs.Log.{Item, Told, told, first, unread, reads, Reads-as, Whole-log}
 use Rattle.events.specs.Log.Reads-as.{ended, tail, next}
 use Rattle.events.specs.declared.log.Records.{Records}
 use Rattle.refusals.specs.declared.Refusal.the-variants.{Tail}
 use Rattle.std.proofs.shelf.Lists.{drop-all, take-at, drop-at, nil-from-length, length-take-le}
-use Rattle.std.proofs.shelf.Tests.{cond-true, cond-false, cond-both, eq-eqb, ne-eqb, lt-ltb, le-ltb, ltb-true, ltb-false, eqb-false, cases-lt, cases-eq}
-use Rattle.std.specs.Iters.{yields, drains}
-use Rattle.std.specs.Options.{mapped}
+use Rattle.std.proofs.shelf.Tests.{cond-true, cond-false, eq-eqb, ne-eqb, lt-ltb, le-ltb, cases-lt, cases-eq}
+use Rattle.std.specs.Iters.{yields}
 use Rattle.std.specs.declared.option.Option.{Option}
 use Rattle.std.specs.declared.option.Option.the-variants.{None, Some}
 use Rattle.std.specs.declared.result.Result.the-variants.{Ok, Err}

@@ -1,14 +1,14 @@
 -- Packing and unpacking are inverse to each other. Assumes nothing.
-use mathlib.Core.Path.{_≡_, refl, sym, ap, subst, _∙_}
+use mathlib.Core.Path.{_≡_, refl, sym, ap, _∙_}
 use mathlib.Core.List.{List, [], _∷_, _++_}
-use Prim.Native.Nat.{ℕ, zero, suc, _+_, _*_, _/_, _%_, _^_, _<_, _≤_}
+use Prim.Native.Nat.{ℕ, _+_, _*_, _/_, _%_, _^_, _<_}
 use native.Mathlib.Nat.{add-comm, add-assoc, add-mul, mul-assoc, mul-comm, add-mul-mod-self-right, mod-eq-of-lt, add-mul-div-right, mod-lt, zero-add}
 use native.Mathlib.Omega.{arith}
 use lib.Arith.{mod-mul}
 use lib.ListN.{length}
 use lib.Pow.{pow-pos, pow-add}
 use Rattle.events.specs.Bits.{width, packed, unpacked, Fitting}
-use Rattle.std.proofs.shelf.Bits.{div-mul-add, mod-mul-add, mul-add-lt}
+use Rattle.std.proofs.shelf.Bits.{div-mul-add, mul-add-lt}
 
 pub packed-below : (ws vs : List ℕ) → Fitting ws vs → packed ws vs < 2 ^ width ws
 packed-below [] [] f = omega arith

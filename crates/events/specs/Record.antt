@@ -7,7 +7,7 @@ use Prim.Native.Nat.{ℕ, _-_, _^_, _<_}
 use lib.Dec.{ltb}
 use lib.IntN.{ℤ, pos, negsuc, _-ℤ_}
 use lib.ListN.{length, getD, replicate}
-use Rattle.events.specs.Bits.{packed, unpacked, Fitting, eights}
+use Rattle.events.specs.Bits.{packed, unpacked, eights}
 use Rattle.events.specs.declared.event.Event.{Event}
 use Rattle.keys.specs.declared.badge.Badge.{Badge}
 use Rattle.std.specs.shelf.Lists.{All}

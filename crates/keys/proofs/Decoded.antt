@@ -1,5 +1,5 @@
 -- A text that is read one character after another. Assumes nothing.
-use mathlib.Core.Path.{_≡_, sym, ap, subst, _∙_}
+use mathlib.Core.Path.{_≡_, sym, ap, _∙_}
 use mathlib.Core.List.{List, [], _∷_, _++_, append-assoc, append-nil}
 use Prim.Native.Nat.{ℕ, _<_}
 use native.Mathlib.Omega.{arith}
@@ -8,7 +8,7 @@ use lib.Utf8.{encode}
 use Rattle.keys.specs.Points.{held}
 use Rattle.keys.specs.declared.points.Points.{Points}
 use Rattle.std.proofs.shelf.Lists.{nil-from-length, length-take-le}
-use Rattle.std.proofs.shelf.Text.{decodes-past-char, utf8-past-char, decodes-nil}
+use Rattle.std.proofs.shelf.Text.{decodes-past-char, decodes-nil}
 use Rattle.std.specs.Text.{Utf8}
 use Rattle.std.specs.shelf.Text.{decodes}
 

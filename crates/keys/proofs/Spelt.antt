@@ -1,28 +1,26 @@
 -- Spellings and their identities. Assumes nothing.
 use mathlib.Core.Path.{_≡_, refl, sym, ap, subst, _∙_}
-use mathlib.Core.Bool.{Bool, true, false, cond, not, _&&_}
+use mathlib.Core.Bool.{true, false}
 use mathlib.Core.Logic.{⊎-elim}
 use mathlib.Core.List.{List, [], _∷_, _++_, append-assoc, append-nil}
-use Prim.Native.Nat.{ℕ, zero, suc, _+_, _*_, _<_, _≤_}
+use Prim.Native.Nat.{ℕ, _+_, _<_}
 use native.Mathlib.Omega.{arith}
-use lib.Dec.{eqb, leb, ltb}
-use lib.ListN.{length, getD, take, length-append}
-use lib.Utf8.{scalar, scalars, scalar-cases}
+use lib.Dec.{eqb}
+use lib.ListN.{length, getD, take}
 use Rattle.keys.specs.Letters.{table, letter, found}
-use Rattle.keys.specs.Name.{allowed, all-allowed, parts, parts-of, identity-of, same-points, Respelled, One-name}
+use Rattle.keys.specs.Name.{parts, parts-of, identity-of, same-points, Respelled, One-name}
 use Rattle.keys.specs.Name.Respelled.{apart, itself, turned, chained}
 use Rattle.keys.specs.declared.letters.Letter.{Letter}
 use Rattle.keys.proofs.Table.{table-rises, table-closed, found-at}
 use Rattle.std.proofs.shelf.Elements.{all-has, all-from-getD, has-getD, has-append-right}
 use Rattle.std.proofs.shelf.Lists.{take-more}
 use Rattle.std.proofs.shelf.Equals.{compares-decides}
-use Rattle.std.proofs.shelf.Tests.{cond-true, cond-false, eqb-true, cases-bool, and-parts, and-from}
-use Rattle.std.proofs.shelf.Ways.{tells}
+use Rattle.std.proofs.shelf.Tests.{cond-true, cond-false, eqb-true, cases-bool}
 use Rattle.std.specs.Orderings.{Decides}
 use borrow.Author.Needs.{needs}
 use Rattle.std.specs.declared.option.Option.{Option}
 use Rattle.std.specs.declared.option.Option.the-variants.{None, Some}
-use Rattle.std.specs.shelf.Lists.{All, Has}
+use Rattle.std.specs.shelf.Lists.{Has}
 
 pub identity-append : (xs ys : List ℕ) → identity-of (xs ++ ys) ≡ identity-of xs ++ identity-of ys
 identity-append [] ys = refl
@@ -107,23 +105,3 @@ one-name xs ys =
 -- the test of equal lists
 pub same-decides : (xs ys : List ℕ) → Decides (same-points xs ys) (xs ≡ ys)
 same-decides = compares-decides same-points (search needs)
-
-parts-length : (c : ℕ) (o : Option Letter) → length (parts-of o c) ≤ 2
-parts-length c None = omega arith
-parts-length c (Some l) = omega arith
-
--- at most two for one
-pub identity-length : (xs : List ℕ) → length (identity-of xs) ≤ 2 * length xs
-identity-length [] = omega arith
-identity-length (c ∷ xs) =
-    let rest = identity-length xs in let first = parts-length c (found table c) in
-    simp length-append (omega arith)
-
--- the code points of a text are allowed
-allowed-scalar : (c : ℕ) → scalar c ≡ true → allowed c ≡ true
-allowed-scalar c t =
-    ⊎-elim (λ (low : c < 55296). grind (arith, tells)) (λ (high : (57344 ≤ c) × (c < 1114112)). grind (arith, tells)) (scalar-cases c t)
-
-pub allowed-scalars : (cs : List ℕ) → scalars cs ≡ true → all-allowed cs ≡ true
-allowed-scalars [] t = refl
-allowed-scalars (c ∷ cs) t = let p = and-parts _ _ t in and-from _ _ (allowed-scalar c (p .0)) (allowed-scalars cs (p .1))

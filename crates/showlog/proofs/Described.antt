@@ -1,14 +1,11 @@
 -- One line more. Assumes nothing.
-use mathlib.Core.Path.{_≡_, refl, sym, ap, subst, _∙_}
+use mathlib.Core.Path.{_≡_, refl, sym, ap, _∙_}
 use mathlib.Core.List.{List, [], _∷_, _++_, map, append-assoc}
 use Prim.Native.Nat.{ℕ}
 use Rattle.events.specs.Log.{Item, Told, told}
 use Rattle.showlog.specs.Lines.{more, line, records-after, log-text}
 use Rattle.std.proofs.shelf.Lists.{map-push}
 use Rattle.std.specs.declared.result.Result.the-variants.{Ok, Err}
-
-one-line : ℕ → Told → List ℕ
-one-line n t = line (more n) t ++ (10 ∷ [])
 
 records-push : (n : ℕ) (items : List Told) (t : Told) → records-after n (items ++ (t ∷ [])) ≡ records-after (records-after n items) (t ∷ [])
 records-push n [] t = refl

@@ -6,7 +6,6 @@ use Rattle.events.specs.Event.{event-line, fields-line}
 use Rattle.events.specs.Log.{Told}
 use Rattle.refusals.specs.Lines.{spaced}
 use Rattle.refusals.specs.Numbers.{refused-line}
-use Rattle.refusals.specs.declared.Refused.{Refused}
 use Rattle.showlog.specs.declared.lines.End.{End}
 use Rattle.showlog.specs.declared.lines.Numbered.{Numbered}
 use Rattle.std.specs.Written.{decimal}

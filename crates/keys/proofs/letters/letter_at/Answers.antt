@@ -1,4 +1,3 @@
-use borrow.Author.Needs.{needs}
 use Rattle.std.proofs.shelf.Lists.{getD-default}
 use Rattle.keys.specs.Letters.{table}
 use Rattle.keys.proofs.letters.letter_at.Needs as need
