@@ -28,3 +28,7 @@ Fitting (w ∷ ws) (v ∷ vs) = (v < 2 ^ w) × Fitting ws vs
 -- bytes have eight bits each
 abbrev pub eights : List ℕ → List ℕ
 eights bytes = map (λ _. 8) bytes
+
+-- bytes as one number, the first byte highest
+abbrev pub number-of : List ℕ → ℕ
+number-of bytes = packed (eights bytes) bytes

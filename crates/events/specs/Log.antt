@@ -2,7 +2,7 @@
 use mathlib.Core.Path.{_≡_}
 use mathlib.Core.Bool.{cond}
 use mathlib.Core.List.{List, [], _∷_, _++_, map}
-use Prim.Native.Nat.{ℕ, _*_, _≤_}
+use Prim.Native.Nat.{ℕ, zero, suc, _*_, _≤_}
 use lib.Dec.{eqb, ltb}
 use lib.ListN.{length, take, drop}
 use Rattle.events.specs.Record.{Fields, fields, decoded}
@@ -39,6 +39,19 @@ pub data Reads-as : List ℕ → List Told → Type 0 where
 abbrev pub first : List ℕ → Option Told
 first log = cond (eqb (length log) 0) None (Some (cond (ltb (length log) 24) (Err Tail) (Ok (decoded (take 24 log)))))
 
+-- What a log reads as, by computation: an item for what stands first, and then what the rest reads as. Each item takes a byte at
+-- least, so as many turns as there are bytes suffice.
+abbrev pub items-of : Option Told → List Told → List Told
+items-of None more = []
+items-of (Some t) more = t ∷ more
+
+abbrev pub reading : ℕ → List ℕ → List Told
+reading zero log = []
+reading (suc turns) log = items-of (first log) (reading turns (drop 24 log))
+
+abbrev pub log-of : List ℕ → List Told
+log-of log = reading (length log) log
+
 abbrev pub unread : Records → List ℕ
 unread s = s .rest .now
 
@@ -46,9 +59,11 @@ unread s = s .rest .now
 abbrev pub reads : Records → Option Item → Records → Type 0
 reads s r t = (mapped told r ≡ first (unread s)) × (unread t ≡ drop 24 (unread s))
 
--- What calls give until they give nothing is a reading of the log, and the log has no other; whole records at the front
--- of a log may be read by themselves.
 pub record Whole-log : Type 0 where
-  pub given : (s : Records) (items : List Item) → drains reads s items → Reads-as (unread s) (map told items)
-  pub one : (log : List ℕ) (xs ys : List Told) → Reads-as log xs → Reads-as log ys → xs ≡ ys
-  pub pieces : (n : ℕ) (front back : List ℕ) (xs ys : List Told) → length front ≡ 24 * n → Reads-as front xs → Reads-as back ys → Reads-as (front ++ back) (xs ++ ys)
+  -- each log has a reading, the computed one, and no other
+  pub some : (log : List ℕ) → Reads-as log (log-of log)
+  pub only : (log : List ℕ) (items : List Told) → Reads-as log items → items ≡ log-of log
+  -- and that is what calls of the reader give until they give nothing
+  pub given : (s : Records) (items : List Item) → drains reads s items → map told items ≡ log-of (unread s)
+  -- whole records at the front of a log may be read by themselves
+  pub pieces : (n : ℕ) (front back : List ℕ) → length front ≡ 24 * n → log-of (front ++ back) ≡ log-of front ++ log-of back

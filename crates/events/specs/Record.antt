@@ -7,7 +7,7 @@ use Prim.Native.Nat.{ℕ, _-_, _^_, _<_}
 use lib.Dec.{ltb}
 use lib.IntN.{ℤ, pos, negsuc, _-ℤ_}
 use lib.ListN.{length, getD, replicate}
-use Rattle.events.specs.Bits.{packed, unpacked, eights}
+use Rattle.events.specs.Bits.{packed, unpacked, number-of}
 use Rattle.events.specs.declared.event.Event.{Event}
 use Rattle.keys.specs.declared.badge.Badge.{Badge}
 use Rattle.std.specs.shelf.Lists.{All}
@@ -48,7 +48,7 @@ values-of f = f .kind ∷ f .time ∷ f .badge ∷ map bits-32 (f .readings)
 
 -- the values of the fields in a record, by its bytes as one number
 unfoldable pub values-in : List ℕ → List ℕ
-values-in bytes = unpacked widths (packed (eights bytes) bytes)
+values-in bytes = unpacked widths (number-of bytes)
 
 abbrev pub decoded : List ℕ → Fields
 decoded bytes = fields-from (values-in bytes)

@@ -11,6 +11,6 @@ pub use kind::words_differ;
 pub use log::Records;
 pub use log::RecordsIterator;
 pub use log::logs_have_one_reading;
-pub use record::RECORD;
+pub use record::RECORD_LEN;
 pub use record::decode;
 pub use record::encoding_is_inverse;

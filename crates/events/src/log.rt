@@ -1,9 +1,9 @@
 // A badge log, record after record.
 ghost use mathlib.Core.Path.{_≡_};
-ghost use Prim.Native.Nat.{_-_};
 ghost use lib.ListN.{length};
 ghost use Rattle.events.specs.Log.{reads, unread, Whole-log};
 use crate::event::Event;
+use crate::record::RECORD_LEN;
 use crate::record::decode;
 use keys::Badge;
 use refusals::Refusal;
@@ -33,7 +33,7 @@ pub impl<'a> Iterator for Records<'a> as RecordsIterator {
 
     fn next(&mut self) -> Option<Result<Event<Badge>, Refusal>> {
         let log = self.rest;
-        match log.split_first_chunk::<24>() {
+        match log.split_first_chunk::<RECORD_LEN>() {
             Some((record, rest)) => {
                 self.rest = rest;
                 Some(Ok(decode(record)))
@@ -47,7 +47,7 @@ pub impl<'a> Iterator for Records<'a> as RecordsIterator {
     }
 }
 
-// What calls of `next` give until `None` is what the log reads as, and a log has one reading.
+// Each log has one reading, and that is what calls of `next` give until `None`.
 pub fn logs_have_one_reading() -> u8
     ensures { λ _. ⌜ Whole-log ⌝ }
 {

@@ -2,16 +2,16 @@
 ghost use mathlib.Core.Path.{_≡_};
 ghost use Prim.Native.Nat.{_+_, _<_, _≤_};
 ghost use lib.ListN.{getD, take, drop};
-ghost use Rattle.events.specs.Bits.{packed, eights};
+ghost use Rattle.events.specs.Bits.{number-of};
 ghost use Rattle.events.specs.Record.{fields, decoded, values-in, signed-32, Inverse};
 use crate::event::Event;
 use keys::Badge;
 
 // A record has 24 bytes: kind 4 bits, time 32, badge 28, and four readings of 32 each, most significant bit first.
-pub const RECORD: usize = 24;
+pub const RECORD_LEN: usize = 24;
 
 // The event of a record. Every record has one.
-pub fn decode(bytes: &[u8; 24]) -> Event<Badge>
+pub fn decode(bytes: &[u8; RECORD_LEN]) -> Event<Badge>
     ensures { λ r. ⌜ fields r ≡ decoded (now (bytes .entry)) ⌝ }
 {
     Event {
@@ -27,20 +27,20 @@ pub fn decode(bytes: &[u8; 24]) -> Event<Badge>
     }
 }
 
-fn kind_bits(bytes: &[u8; 24]) -> u8
+fn kind_bits(bytes: &[u8; RECORD_LEN]) -> u8
     ensures { λ r. ⌜ r ≡ getD (values-in (now (bytes .entry))) 0 0 ⌝ }
 {
     (word(bytes, 0) >> 28) as u8
 }
 
-fn time_bits(bytes: &[u8; 24]) -> u32
+fn time_bits(bytes: &[u8; RECORD_LEN]) -> u32
     ensures { λ r. ⌜ r ≡ getD (values-in (now (bytes .entry))) 1 0 ⌝ }
 {
     let high = word(bytes, 0) % (1 << 28);
     high * 16 + (word(bytes, 4) >> 28)
 }
 
-fn badge_bits(bytes: &[u8; 24]) -> Badge
+fn badge_bits(bytes: &[u8; RECORD_LEN]) -> Badge
     ensures { λ r. ⌜ r .number ≡ getD (values-in (now (bytes .entry))) 2 0 ⌝ }
 {
     let Ok(badge) = Badge::new(word(bytes, 4) % (1 << 28)) else {
@@ -50,7 +50,7 @@ fn badge_bits(bytes: &[u8; 24]) -> Badge
 }
 
 // The reading number `i`, from 0.
-fn reading_bits(bytes: &[u8; 24], i: usize) -> i32
+fn reading_bits(bytes: &[u8; RECORD_LEN], i: usize) -> i32
     requires { ⌜ i < 4 ⌝ }
     ensures { λ r. ⌜ r ≡ signed-32 (getD (values-in (now (bytes .entry))) (3 + i) 0) ⌝ }
 {
@@ -58,9 +58,9 @@ fn reading_bits(bytes: &[u8; 24], i: usize) -> i32
 }
 
 // The 32 bits from byte `at` on.
-fn word(bytes: &[u8; 24], at: usize) -> u32
+fn word(bytes: &[u8; RECORD_LEN], at: usize) -> u32
     requires { ⌜ at + 4 ≤ 24 ⌝ }
-    ensures { λ r. ⌜ r ≡ packed (eights (take 4 (drop at (now (bytes .entry))))) (take 4 (drop at (now (bytes .entry)))) ⌝ }
+    ensures { λ r. ⌜ r ≡ number-of (take 4 (drop at (now (bytes .entry)))) ⌝ }
 {
     u32::from_be_bytes([bytes[at], bytes[at + 1], bytes[at + 2], bytes[at + 3]])
 }

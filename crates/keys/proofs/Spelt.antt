@@ -41,7 +41,7 @@ identity-step xs i o before after h was so-far now =
 
 -- a letter of the table is taken apart, and its parts stay as they are
 record Taken (l : Letter) : Type 0 where
-  whole : parts (l .whole) ≡ l .base ∷ l .mark ∷ []
+  composed : parts (l .composed) ≡ l .base ∷ l .mark ∷ []
   base : parts (l .base) ≡ l .base ∷ []
   mark : parts (l .mark) ≡ l .mark ∷ []
 
@@ -50,7 +50,7 @@ taken l has =
     all-has Taken table l
     (all-from-getD Taken table (letter 0 0 0)
     (λ i h. record {
-      whole = ap (λ (o : Option Letter). parts-of o (getD table i (letter 0 0 0) .whole)) (found-at table (letter 0 0 0) table-rises i h);
+      composed = ap (λ (o : Option Letter). parts-of o (getD table i (letter 0 0 0) .composed)) (found-at table (letter 0 0 0) table-rises i h);
       base = ap (λ (o : Option Letter). parts-of o (getD table i (letter 0 0 0) .base)) (table-closed i (letter 0 0 0) h .0);
       mark = ap (λ (o : Option Letter). parts-of o (getD table i (letter 0 0 0) .mark)) (table-closed i (letter 0 0 0) h .1);
     })) has
@@ -58,9 +58,9 @@ taken l has =
 one-way : (xs ys : List ℕ) → Respelled xs ys → identity-of xs ≡ identity-of ys
 one-way xs ys (apart front back l has) =
     let t = taken l has in
-    let tail : parts (l .whole) ++ identity-of back ≡ parts (l .base) ++ (parts (l .mark) ++ identity-of back) =
-    ap (λ (p : List ℕ). p ++ identity-of back) (t .whole) ∙ sym (λ i. t .base i ++ (t .mark i ++ identity-of back)) in
-    identity-append front (l .whole ∷ back) ∙ ap (λ (p : List ℕ). identity-of front ++ p) tail ∙
+    let tail : parts (l .composed) ++ identity-of back ≡ parts (l .base) ++ (parts (l .mark) ++ identity-of back) =
+    ap (λ (p : List ℕ). p ++ identity-of back) (t .composed) ∙ sym (λ i. t .base i ++ (t .mark i ++ identity-of back)) in
+    identity-append front (l .composed ∷ back) ∙ ap (λ (p : List ℕ). identity-of front ++ p) tail ∙
     sym (identity-append front (l .base ∷ l .mark ∷ back))
 one-way xs ys (itself zs) = refl
 one-way xs ys (turned us vs r) = sym (one-way us vs r)
@@ -73,17 +73,17 @@ some-same : (m l : Letter) → _≡_ {A = Option Letter} (Some m) (Some l) → m
 some-same m l e = cc
 
 -- what is found is in the list, and is for the code point that was sought
-found-has : (ls : List Letter) (c : ℕ) (l : Letter) → found ls c ≡ Some l → Has ls l × (l .whole ≡ c)
+found-has : (ls : List Letter) (c : ℕ) (l : Letter) → found ls c ≡ Some l → Has ls l × (l .composed ≡ c)
 found-has [] c l e = absurd (none-some l e)
 found-has (m ∷ ls) c l e =
     ⊎-elim
-    (λ (same : eqb (m .whole) c ≡ true).
+    (λ (same : eqb (m .composed) c ≡ true).
     let is : m ≡ l = some-same m l (sym (cond-true _ _ _ same) ∙ e) in
-    (subst (Has (m ∷ ls)) is (has-getD (m ∷ ls) 0 m (omega arith)), sym (ap (λ (x : Letter). x .whole) is) ∙ eqb-true (m .whole) c same))
-    (λ (other : eqb (m .whole) c ≡ false).
+    (subst (Has (m ∷ ls)) is (has-getD (m ∷ ls) 0 m (omega arith)), sym (ap (λ (x : Letter). x .composed) is) ∙ eqb-true (m .composed) c same))
+    (λ (other : eqb (m .composed) c ≡ false).
     let rest = found-has ls c l (sym (cond-false _ _ _ other) ∙ e) in
     (has-append-right (m ∷ []) ls l (rest .0), rest .1))
-    (cases-bool (eqb (m .whole) c))
+    (cases-bool (eqb (m .composed) c))
 
 one-part : (front back : List ℕ) (c : ℕ) (o : Option Letter) → found table c ≡ o → Respelled (front ++ (c ∷ back)) (front ++ (parts-of o c ++ back))
 one-part front back c None e = itself _

@@ -1,4 +1,4 @@
--- The table's rule, by one test that computes over the whole table, and what it gives for a search. Assumes nothing.
+-- The table's rule, by one test that computes over the composed table, and what it gives for a search. Assumes nothing.
 use mathlib.Core.Path.{_≡_, refl, sym, subst, _∙_}
 use mathlib.Core.Bool.{Bool, true, false, not, _&&_}
 use mathlib.Core.Logic.{⊎-elim}
@@ -8,7 +8,7 @@ use native.Mathlib.Nat.{le-of-suc-le-suc, not-suc-le-zero}
 use native.Mathlib.Omega.{arith}
 use lib.Dec.{ltb}
 use lib.ListN.{length, getD}
-use Rattle.keys.specs.Letters.{table, letter, found, Rises, Closed}
+use Rattle.keys.specs.Letters.{table, letter, found, Ascending, Closed}
 use Rattle.keys.specs.declared.letters.Letter.{Letter}
 use Rattle.std.proofs.shelf.Tests.{and-parts, ltb-true, ne-eqb, eq-eqb, cond-true, cond-false, both-ways, cases-lt, cases-eq}
 use Rattle.std.specs.Options.{isSome}
@@ -18,23 +18,23 @@ use Rattle.std.specs.declared.option.Option.the-variants.{None, Some}
 -- each letter is above the one before it, and the first above n
 abbrev above : ℕ → List Letter → Bool
 above n [] = true
-above n (l ∷ ls) = ltb n (l .whole) && above (l .whole) ls
+above n (l ∷ ls) = ltb n (l .composed) && above (l .composed) ls
 
-above-all : (n : ℕ) (ls : List Letter) → above n ls ≡ true → (k : ℕ) (d : Letter) → k < length ls → n < getD ls k d .whole
+above-all : (n : ℕ) (ls : List Letter) → above n ls ≡ true → (k : ℕ) (d : Letter) → k < length ls → n < getD ls k d .composed
 above-all n [] t k d h = absurd (not-suc-le-zero h)
-above-all n (l ∷ ls) t zero d h = ltb-true n (l .whole) (and-parts _ _ t .0)
+above-all n (l ∷ ls) t zero d h = ltb-true n (l .composed) (and-parts _ _ t .0)
 above-all n (l ∷ ls) t (suc k) d h =
     let p = and-parts _ _ t in
-    let first = ltb-true n (l .whole) (p .0) in
-    let rest = above-all (l .whole) ls (p .1) k d (le-of-suc-le-suc h) in
+    let first = ltb-true n (l .composed) (p .0) in
+    let rest = above-all (l .composed) ls (p .1) k d (le-of-suc-le-suc h) in
     omega arith
 
-rises-above : (n : ℕ) (ls : List Letter) → above n ls ≡ true → Rises ls
+rises-above : (n : ℕ) (ls : List Letter) → above n ls ≡ true → Ascending ls
 rises-above n [] t i j d less h = absurd (not-suc-le-zero h)
 rises-above n (l ∷ ls) t i zero d less h = absurd (not-suc-le-zero less)
-rises-above n (l ∷ ls) t zero (suc j) d less h = above-all (l .whole) ls (and-parts _ _ t .1) j d (le-of-suc-le-suc h)
+rises-above n (l ∷ ls) t zero (suc j) d less h = above-all (l .composed) ls (and-parts _ _ t .1) j d (le-of-suc-le-suc h)
 rises-above n (l ∷ ls) t (suc i) (suc j) d less h =
-    rises-above (l .whole) ls (and-parts _ _ t .1) i j d (le-of-suc-le-suc less) (le-of-suc-le-suc h)
+    rises-above (l .composed) ls (and-parts _ _ t .1) i j d (le-of-suc-le-suc less) (le-of-suc-le-suc h)
 
 none : (o : Option Letter) → not (isSome o) ≡ true → o ≡ None
 none None t = refl
@@ -50,7 +50,7 @@ closed-all all [] t k d h = absurd (not-suc-le-zero h)
 closed-all all (l ∷ ls) t zero d h = let p = and-parts _ _ (and-parts _ _ t .0) in (none _ (p .0), none _ (p .1))
 closed-all all (l ∷ ls) t (suc k) d h = closed-all all ls (and-parts _ _ t .1) k d (le-of-suc-le-suc h)
 
--- the test of the whole table
+-- the test of the composed table
 sound : List Letter → Bool
 sound ls = above 0 ls && closed-in ls ls
 
@@ -58,7 +58,7 @@ passes : sound table ≡ true
 unfolding table sound
 passes = refl
 
-pub table-rises : Rises table
+pub table-rises : Ascending table
 unfolding sound
 table-rises = rises-above 0 table (and-parts _ _ passes .0)
 
@@ -67,24 +67,24 @@ unfolding sound
 table-closed = closed-all table table (and-parts _ _ passes .1)
 
 -- where the letters ascend, an entry is the only one for its letter
-pub found-at : (ls : List Letter) (d : Letter) → Rises ls → (k : ℕ) → k < length ls → found ls (getD ls k d .whole) ≡ Some (getD ls k d)
+pub found-at : (ls : List Letter) (d : Letter) → Ascending ls → (k : ℕ) → k < length ls → found ls (getD ls k d .composed) ≡ Some (getD ls k d)
 found-at [] d r k h = absurd (not-suc-le-zero h)
-found-at (l ∷ ls) d r zero h = cond-true _ _ _ (eq-eqb (l .whole) (l .whole) refl)
+found-at (l ∷ ls) d r zero h = cond-true _ _ _ (eq-eqb (l .composed) (l .composed) refl)
 found-at (l ∷ ls) d r (suc k) h =
-    let less : l .whole < getD ls k d .whole = r 0 (suc k) d (omega arith) h in
-    cond-false _ _ _ (ne-eqb (l .whole) (getD ls k d .whole) (λ e. omega arith)) ∙
+    let less : l .composed < getD ls k d .composed = r 0 (suc k) d (omega arith) h in
+    cond-false _ _ _ (ne-eqb (l .composed) (getD ls k d .composed) (λ e. omega arith)) ∙
     found-at ls d (λ i j e p q. r (suc i) (suc j) e (omega arith) (omega arith)) k (le-of-suc-le-suc h)
 
 -- where no entry is for c, none is found
-pub found-none : (ls : List Letter) (d : Letter) (c : ℕ) → ((k : ℕ) → k < length ls → getD ls k d .whole ≡ c → ⊥) → found ls c ≡ None
+pub found-none : (ls : List Letter) (d : Letter) (c : ℕ) → ((k : ℕ) → k < length ls → getD ls k d .composed ≡ c → ⊥) → found ls c ≡ None
 found-none [] d c no-one = refl
 found-none (l ∷ ls) d c no-one =
-    cond-false _ _ _ (ne-eqb (l .whole) c (no-one 0 (omega arith))) ∙
+    cond-false _ _ _ (ne-eqb (l .composed) c (no-one 0 (omega arith))) ∙
     found-none ls d c (λ k h. no-one (suc k) (omega arith))
 
 -- For a search by halves: the letter at a place of the table.
 abbrev at : ℕ → ℕ
-at k = getD table k (letter 0 0 0) .whole
+at k = getD table k (letter 0 0 0) .composed
 
 at-rises : (i j : ℕ) → i < j → j < 53 → at i < at j
 unfolding table

@@ -10,7 +10,7 @@ use Rattle.std.specs.declared.option.Option.{Option}
 use Rattle.std.specs.declared.option.Option.the-variants.{None, Some}
 
 abbrev pub letter : ℕ → ℕ → ℕ → Letter
-letter whole base mark = record { whole = whole; base = base; mark = mark }
+letter composed base mark = record { composed = composed; base = base; mark = mark }
 
 -- the accented letters of Latin-1; the marks are grave U+0300, acute U+0301, circumflex U+0302, tilde U+0303, diaeresis
 -- U+0308, ring U+030A and cedilla U+0327
@@ -74,11 +74,11 @@ table =
 -- the entry for the letter c
 abbrev pub found : List Letter → ℕ → Option Letter
 found [] c = None
-found (l ∷ ls) c = cond (eqb (l .whole) c) (Some l) (found ls c)
+found (l ∷ ls) c = cond (eqb (l .composed) c) (Some l) (found ls c)
 
 -- the table ascends
-abbrev pub Rises : List Letter → Type 0
-Rises ls = (i j : ℕ) (d : Letter) → i < j → j < length ls → getD ls i d .whole < getD ls j d .whole
+abbrev pub Ascending : List Letter → Type 0
+Ascending ls = (i j : ℕ) (d : Letter) → i < j → j < length ls → getD ls i d .composed < getD ls j d .composed
 
 -- no base and no mark is itself a letter of the table
 abbrev pub Closed : List Letter → Type 0

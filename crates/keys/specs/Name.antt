@@ -13,7 +13,9 @@ use Rattle.std.specs.declared.option.Option.{Option}
 use Rattle.std.specs.declared.option.Option.the-variants.{None, Some}
 use Rattle.std.specs.declared.result.Result.{Result}
 use Rattle.std.specs.declared.result.Result.the-variants.{Ok, Err}
+use Rattle.std.specs.Text.{Utf8}
 use Rattle.std.specs.shelf.Lists.{sum, Has}
+use Rattle.std.specs.shelf.Text.{decodes}
 
 -- a name may have every code point but the surrogates
 abbrev pub allowed : ℕ → Bool
@@ -54,7 +56,7 @@ same-points (x ∷ xs) (y ∷ ys) = eqb x y && same-points xs ys
 -- One spelling is turned into the other by writing letters of the table as base and mark, or back, anywhere and as often
 -- as wanted.
 pub data Respelled : List ℕ → List ℕ → Type 0 where
-  apart : (front back : List ℕ) (l : Letter) → Has table l → Respelled (front ++ (l .whole ∷ back)) (front ++ (l .base ∷ (l .mark ∷ back)))
+  apart : (front back : List ℕ) (l : Letter) → Has table l → Respelled (front ++ (l .composed ∷ back)) (front ++ (l .base ∷ (l .mark ∷ back)))
   itself : (xs : List ℕ) → Respelled xs xs
   turned : (xs ys : List ℕ) → Respelled xs ys → Respelled ys xs
   chained : (xs ys zs : List ℕ) → Respelled xs ys → Respelled ys zs → Respelled xs zs
@@ -63,6 +65,13 @@ pub data Respelled : List ℕ → List ℕ → Type 0 where
 abbrev pub One-name : Type 0
 One-name = (xs ys : List ℕ) → (Respelled xs ys → identity-of xs ≡ identity-of ys) × (identity-of xs ≡ identity-of ys → Respelled xs ys)
 
--- e with acute, as one letter and as two code points, is one name, on shelf 6
+-- e with acute, as one letter and as two code points, makes names that are the same, on shelf 6
 abbrev pub Acute-e : Type 0
-Acute-e = (identity-of (0xE9 ∷ []) ≡ identity-of (0x65 ∷ 0x301 ∷ [])) × (shelf-of (0xE9 ∷ []) ≡ 6) × (shelf-of (0x65 ∷ 0x301 ∷ []) ≡ 6)
+Acute-e =
+    (name-answer (0xE9 ∷ []) ≡ Ok (0xE9 ∷ [])) × (name-answer (0x65 ∷ 0x301 ∷ []) ≡ Ok (0x65 ∷ 0x301 ∷ []))
+    × (same-points (identity-of (0xE9 ∷ [])) (identity-of (0x65 ∷ 0x301 ∷ [])) ≡ true)
+    × (shelf-of (0xE9 ∷ []) ≡ 6) × (shelf-of (0x65 ∷ 0x301 ∷ []) ≡ 6)
+
+-- the code points of a text are all allowed
+abbrev pub Texts-allowed : Type 0
+Texts-allowed = (text : List ℕ) → Utf8 text → all-allowed (decodes text) ≡ true

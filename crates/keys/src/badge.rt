@@ -16,13 +16,13 @@ pub struct Badge {
 
 impl Badge {
     // The largest number of a badge.
-    pub const MOST: u32 = 268_435_455;
+    pub const MAX: u32 = 268_435_455;
 
     // The badge with this number; refused where the number is too large.
     pub fn new(number: u32) -> Result<Badge, Refusal>
         ensures { λ r. ⌜ answered (λ b. b .number) r ≡ badge-answer number ⌝ }
     {
-        if number > Badge::MOST {
+        if number > Badge::MAX {
             return Err(Refusal::Badge);
         }
         Ok(Badge { number })

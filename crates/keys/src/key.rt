@@ -17,9 +17,9 @@ pub trait Key: Copy {
     // The class of the key among sixteen.
     ghost shelved: { Self → ℕ };
 
-    law only: { (a b : Self) → alike a b ≡ true → identity a ≡ identity b };
+    law sound: { (a b : Self) → alike a b ≡ true → identity a ≡ identity b };
 
-    law always: { (a b : Self) → identity a ≡ identity b → alike a b ≡ true };
+    law complete: { (a b : Self) → identity a ≡ identity b → alike a b ≡ true };
 
     law below: { (a : Self) → shelved a < 16 };
 

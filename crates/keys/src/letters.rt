@@ -2,13 +2,13 @@
 ghost use mathlib.Core.Path.{_≡_};
 ghost use lib.ListN.{getD};
 ghost use Prim.Native.Nat.{_<_};
-ghost use Rattle.keys.specs.Letters.{letter, table, found, Rises, Closed};
+ghost use Rattle.keys.specs.Letters.{letter, table, found, Ascending, Closed};
 use crate::latin::LETTERS;
 
 // A letter that stands for a base letter and a mark, all three as code points.
 #[derive(Clone, Copy)]
 pub struct Letter {
-    pub whole: u32,
+    pub composed: u32,
     pub base: u32,
     pub mark: u32,
 }
@@ -29,10 +29,10 @@ pub fn letter_of(point: u32) -> Option<Letter>
     while low < high {
         let middle = low + (high - low) / 2;
         let letter = letter_at(middle);
-        if letter.whole == point {
+        if letter.composed == point {
             return Some(letter);
         }
-        if letter.whole < point {
+        if letter.composed < point {
             low = middle + 1;
         } else {
             high = middle;
@@ -43,7 +43,7 @@ pub fn letter_of(point: u32) -> Option<Letter>
 
 // The table's rule: it ascends, and nothing that it puts in the place of a letter is a letter of the table.
 pub fn table_is_sound() -> u8
-    ensures { λ _. ⌜ Rises table ⌝ ∗ ⌜ Closed table ⌝ }
+    ensures { λ _. ⌜ Ascending table ⌝ ∗ ⌜ Closed table ⌝ }
 {
     0
 }

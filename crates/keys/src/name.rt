@@ -4,7 +4,7 @@ ghost use mathlib.Core.List.{List};
 ghost use mathlib.Core.Path.{_≡_};
 ghost use Prim.Native.Nat.{ℕ, _≤_, _<_};
 ghost use lib.ListN.{length};
-ghost use Rattle.keys.specs.Name.{allowed, all-allowed, name-answer, identity-of, shelf-of, same-points, One-name, Acute-e};
+ghost use Rattle.keys.specs.Name.{allowed, all-allowed, name-answer, identity-of, shelf-of, same-points, One-name, Acute-e, Texts-allowed};
 ghost use Rattle.keys.specs.Points.{held};
 ghost use Rattle.refusals.specs.Answers.{answered};
 ghost use Rattle.std.specs.Options.{Cases};
@@ -39,7 +39,7 @@ impl Name {
             return Err(Refusal::CodePoint);
         }
         let spelling = kept(points);
-        let identity = taken_apart(points);
+        let identity = decompose(points);
         let shelf = (total(identity.as_slice()) % 16) as u8;
         Ok(Name {
             spelling,
@@ -117,7 +117,7 @@ fn kept(points: &[u32]) -> Points<24>
 }
 
 // Goes over the code points in order, and writes base and mark for each letter of the table.
-fn taken_apart(points: &[u32]) -> Points<48>
+fn decompose(points: &[u32]) -> Points<48>
     requires { ⌜ length (now points) ≤ 24 ⌝ }
     ensures { λ r. ⌜ held r ≡ identity-of (now (points .entry)) ⌝ }
 {
@@ -145,7 +145,7 @@ fn total(points: &[u32]) -> u64
     total
 }
 
-fn have_equal(a: &Points<48>, b: &Points<48>) -> bool
+fn equal_points(a: &Points<48>, b: &Points<48>) -> bool
     ensures { λ r. ⌜ r ≡ same-points (held (now (a .entry))) (held (now (b .entry))) ⌝ }
 {
     a.as_slice() == b.as_slice()
@@ -161,7 +161,7 @@ pub impl Key for Name as NameKey {
     ghost shelved = { λ n. shelf-of (held (n .spelling)) };
 
     fn same(&self, other: &Name) -> bool {
-        have_equal(&self.identity, &other.identity)
+        equal_points(&self.identity, &other.identity)
     }
 
     fn shelf(&self) -> u8 {
@@ -179,6 +179,13 @@ pub fn one_name_is_respelled() -> u8
 // The worked example of two spellings: they are one name, on shelf 6.
 pub fn acute_e_is_one_name() -> u8
     ensures { λ _. ⌜ Acute-e ⌝ }
+{
+    0
+}
+
+// A text never has a code point that a name may not have.
+pub fn texts_are_allowed() -> u8
+    ensures { λ _. ⌜ Texts-allowed ⌝ }
 {
     0
 }

@@ -7,7 +7,7 @@ ghost use lib.ListN.{length, take};
 
 // At most N code points: the first `len` of `room`.
 #[derive(Clone, Copy)]
-pub struct Points<const N: usize> {
+pub(crate) struct Points<const N: usize> {
     room: [u32; N],
     len: usize,
     ghost sized: { length room ≡ N },
@@ -15,7 +15,7 @@ pub struct Points<const N: usize> {
 }
 
 impl<const N: usize> Points<N> {
-    pub fn new() -> Points<N>
+    pub(crate) fn new() -> Points<N>
         ensures items { λ r. ⌜ take (r .len) (r .room) ≡ [] ⌝ }
         ensures len { λ r. ⌜ r .len ≡ 0 ⌝ }
     {
@@ -25,14 +25,14 @@ impl<const N: usize> Points<N> {
         }
     }
 
-    pub fn is_full(&self) -> bool
+    pub(crate) fn is_full(&self) -> bool
         ensures { λ r. ⌜ r ≡ eqb (now (self .entry) .len) N ⌝ }
     {
         self.len == N
     }
 
     // One code point more.
-    pub fn push(&mut self, point: u32)
+    pub(crate) fn push(&mut self, point: u32)
         requires { ⌜ now self .len < N ⌝ }
         ensures items { λ _. ⌜ take (now (self .exit) .len) (now (self .exit) .room) ≡ take (now (self .entry) .len) (now (self .entry) .room) ++ point ∷ [] ⌝ }
         ensures len { λ _. ⌜ now (self .exit) .len ≡ now (self .entry) .len + 1 ⌝ }
@@ -41,7 +41,7 @@ impl<const N: usize> Points<N> {
         self.len += 1;
     }
 
-    pub fn as_slice(&self) -> &[u32]
+    pub(crate) fn as_slice(&self) -> &[u32]
         ensures { λ r. ⌜ now r ≡ take (now (self .entry) .len) (now (self .entry) .room) ⌝ }
     {
         let room = &self.room[..];

@@ -8,14 +8,14 @@ use std::cmp::Ordering;
 use std::mem;
 
 #[derive(Drop)]
-pub enum Tree {
+pub(crate) enum Tree {
     Empty,
     Fork(Box<Branch>),
 }
 
 // A member, between what is before it on the left and what is after it on the right.
 #[derive(Drop)]
-pub struct Branch {
+pub(crate) struct Branch {
     pub identity: Vec<u32>,
     pub line: u64,
     // The bottom has level 1. A left side is one level below, and a right side too, or else its own right side is.
@@ -39,7 +39,7 @@ impl Tree {
     }
 
     // The line of the member with this identity.
-    pub fn line_of(&self, identity: &[u32]) -> Option<u64>
+    pub(crate) fn line_of(&self, identity: &[u32]) -> Option<u64>
         requires { ⌜ Ordered (members-in (now self)) ⌝ }
         ensures { λ r. ⌜ r ≡ line-of (now (identity .entry)) (members-in (now (self .entry))) ⌝ }
     {
@@ -54,7 +54,7 @@ impl Tree {
     }
 
     // The tree with a branch more, which has nothing below it yet.
-    pub fn put(self, new: Box<Branch>) -> Tree
+    pub(crate) fn put(self, new: Box<Branch>) -> Tree
         requires ordered { ⌜ Ordered (members-in self) ⌝ }
         requires bare { ⌜ members-under (box-value new) ≡ member-at (box-value new) ∷ [] ⌝ }
         ensures { λ r. ⌜ members-in r ≡ placed (member-at (box-value new)) (members-in self) ⌝ }

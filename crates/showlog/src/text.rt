@@ -1,8 +1,8 @@
 // The text for a piece of the log.
-ghost use mathlib.Core.List.{List, _++_};
+ghost use mathlib.Core.List.{_++_};
 ghost use mathlib.Core.Path.{_≡_};
-ghost use Rattle.events.specs.Log.{Told, Reads-as};
-ghost use Rattle.showlog.specs.Lines.{log-text, records-after};
+ghost use Rattle.events.specs.Log.{log-of};
+ghost use Rattle.showlog.specs.Lines.{log-text, records-after, Piecewise};
 ghost use Rattle.std.specs.Of.String.{string-bytes};
 ghost use Rattle.std.specs.Vec.{made};
 use crate::lines::Numbered;
@@ -16,7 +16,7 @@ use std::fmt;
 // Appends a line for each record of the log and for its tail, and answers how many records there are now; there were
 // `before` of them before it.
 pub fn describe(text: &mut String, log: &[u8], before: u64) -> Result<u64, fmt::Error>
-    ensures { λ r. ⌜ made r (λ n. (items : List Told) × Reads-as (now (log .entry)) items × (string-bytes (now (text .exit)) ≡ string-bytes (now (text .entry)) ++ log-text before items) × (n ≡ records-after before items)) ⌝ }
+    ensures { λ r. ⌜ made r (λ n. (string-bytes (now (text .exit)) ≡ string-bytes (now (text .entry)) ++ log-text before (log-of (now (log .entry)))) × (n ≡ records-after before (log-of (now (log .entry))))) ⌝ }
 {
     let mut records = before;
     for item in Records::new(log) {
@@ -37,4 +37,11 @@ pub fn describe(text: &mut String, log: &[u8], before: u64) -> Result<u64, fmt::
         }
     }
     Ok(records)
+}
+
+// A log that is described piece by piece gives the text of the whole.
+pub fn pieces_make_the_whole() -> u8
+    ensures { λ _. ⌜ Piecewise ⌝ }
+{
+    0
 }

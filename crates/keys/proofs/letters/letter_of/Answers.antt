@@ -7,17 +7,17 @@ use Rattle.keys.proofs.letters.letter_of.Needs as need
 
 pub returns-then-letter-point : need.returns-then-letter-point
 returns-then-letter-point c =
-    let read = ap (λ (l : Letter). l .whole) (c .letter-at-letter .ensures) in
+    let read = ap (λ (l : Letter). l .composed) (c .letter-at-letter .ensures) in
     ap (λ (l : Letter). Some l) (c .letter-at-letter .ensures) ∙ sym (found-here _ _ (omega arith) (sym read ∙ c .if-letter-point .taken))
 
 pub loop-low-again-then-letter-point-2 : need.loop-low-again-then-letter-point-2
 loop-low-again-then-letter-point-2 c =
-    let read = ap (λ (l : Letter). l .whole) (c .letter-at-letter .ensures) in
+    let read = ap (λ (l : Letter). l .composed) (c .letter-at-letter .ensures) in
     (c .loop-low .inv .0, before-more _ _ (omega arith) (omega arith), c .loop-low .inv .2)
 
 pub loop-low-again : need.loop-low-again
 loop-low-again c =
-    let read = ap (λ (l : Letter). l .whole) (c .letter-at-letter .ensures) in
+    let read = ap (λ (l : Letter). l .composed) (c .letter-at-letter .ensures) in
     (omega arith, c .loop-low .inv .1, after-more _ _ (omega arith))
 
 pub returns : need.returns

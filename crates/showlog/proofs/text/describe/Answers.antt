@@ -1,21 +1,23 @@
-use mathlib.Core.Path.{_≡_, ap, subst, _∙_}
+use mathlib.Core.Path.{_≡_, ap, _∙_}
 use mathlib.Core.List.{List, [], _∷_, _++_, map}
 use Prim.Native.Nat.{ℕ}
 use borrow.Author.Needs.{needs}
 use Rattle.events.proofs.Logs.{whole-log}
-use Rattle.events.specs.Log.{Told, told, unread, Reads-as}
+use Rattle.events.specs.Log.{Told, told, unread, log-of}
 use Rattle.events.specs.Record.{fields}
 use Rattle.showlog.proofs.Described.{text-more, count-more}
 use Rattle.showlog.proofs.text.describe.Needs as need
-use Rattle.showlog.specs.Lines.{line, more}
+use Rattle.showlog.specs.Lines.{line, more, log-text, records-after}
 use Rattle.std.specs.Of.String.{string-bytes}
 use Rattle.std.specs.declared.result.Result.the-variants.{Ok, Err}
 
 pub returns : need.returns
 returns c =
     let from : unread (c .into-iter-item-iterator .result) ≡ c .args .log .now = ap unread (c .into-iter-item-iterator .ensures .becomes) ∙ c .new-item-items .ensures in
-    let read = whole-log .given (c .into-iter-item-iterator .result) (c .loop-item .yielded) (c .next .last .self, (c .loop-item .item-iterator, c .loop-item .yielded-by, c .in-None .ensures tt .steps)) in
-    (map told (c .loop-item .yielded), subst (λ (l : List ℕ). Reads-as l (map told (c .loop-item .yielded))) from read, c .loop-item .inv .0, c .loop-item .inv .1)
+    let read : map told (c .loop-item .yielded) ≡ log-of (c .args .log .now) =
+      whole-log .given (c .into-iter-item-iterator .result) (c .loop-item .yielded) (c .next .last .self, (c .loop-item .item-iterator, c .loop-item .yielded-by, c .in-None .ensures tt .steps)) ∙ ap log-of from in
+    (c .loop-item .inv .0 ∙ ap (λ (items : List Told). string-bytes (c .args .text .now) ++ log-text (c .args .before) items) read,
+      c .loop-item .inv .1 ∙ ap (records-after (c .args .before)) read)
 
 pub loop-item-again : need.loop-item-again
 loop-item-again c =

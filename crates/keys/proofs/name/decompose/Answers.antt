@@ -8,8 +8,8 @@ use Rattle.keys.specs.Name.{identity-of}
 use Rattle.keys.specs.Points.{held}
 use Rattle.keys.proofs.Spelt.{identity-step}
 use Rattle.std.specs.declared.option.Option.the-variants.{None, Some}
-use Rattle.keys.proofs.name.taken_apart.Needs as need
-use Rattle.keys.proofs.name.taken_apart.Needs.{in-Some, in-None}
+use Rattle.keys.proofs.name.decompose.Needs as need
+use Rattle.keys.proofs.name.decompose.Needs.{in-Some, in-None}
 
 pub loop-point-again : need.loop-point-again
 loop-point-again c =
