@@ -1,4 +1,4 @@
-// Worked examples, played as tests.
+// Worked examples, as tests.
 #[cfg(test)]
 mod badges;
 #[cfg(test)]

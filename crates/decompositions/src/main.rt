@@ -1,4 +1,5 @@
-// Compares the identity of every name of one code point with the decompositions that Unicode publishes.
+// Compares every name of one code point with the decompositions that Unicode publishes for U+0000 to U+00FF: those letters must be
+// taken apart as published, and every other code point must stay as it is.
 use keys::Key;
 use keys::Name;
 use keys::NameKey;
@@ -13,15 +14,15 @@ struct Published {
     parts: [u32; 2],
 }
 
-// How the code points of Unicode fared.
+// How a code point as a name compares with what was published for it.
 #[derive(Drop)]
 enum Found {
     // no name
     Refused,
-    // the published parts, or itself
-    AsPublished,
+    // the same
+    Agrees,
     // something else
-    Different,
+    Differs,
 }
 
 fn main(rt: LibcRuntime) -> Result<(), AnyError> {
@@ -32,18 +33,19 @@ fn compare(rt: &LibcRuntime) -> Result<(), AnyError> {
     let text = fs::read_to_string(rt, "latin1.txt")?;
     let published = parse_all(rt.alloc(), text.as_str())?;
     let mut refused = 0u32;
-    let mut agreed = 0u32;
+    let mut agreeing = 0usize;
     for point in 0..0x11_0000 {
         match judge(&published, point) {
             Found::Refused => refused = refused.saturating_add(1),
-            Found::AsPublished => agreed = agreed.saturating_add(1),
-            Found::Different => println!(rt, "differs {point:04X}")?,
+            Found::Agrees => agreeing = agreeing.saturating_add(1),
+            Found::Differs => println!(rt, "U+{point:04X} differs")?,
         }
     }
     let letters = published.len();
+    let others = agreeing.saturating_sub(letters);
     println!(
         rt,
-        "{letters} letters, {agreed} code points as published, {refused} refused"
+        "{letters} letters as published, {others} other code points unchanged, {refused} refused"
     )?;
     Ok(())
 }
@@ -62,12 +64,12 @@ fn matched(point: u32, parts: &[u32]) -> Found {
         return Found::Refused;
     };
     let Ok(apart) = Name::new(parts) else {
-        return Found::Different;
+        return Found::Differs;
     };
     if name.identity() == parts && name.same(&apart) && name.shelf() == apart.shelf() {
-        Found::AsPublished
+        Found::Agrees
     } else {
-        Found::Different
+        Found::Differs
     }
 }
 

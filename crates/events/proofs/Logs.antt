@@ -89,12 +89,12 @@ some-by zero log h = ([], subst (λ (l : List ℕ). Reads-as l []) (sym (nil-fro
 some-by (suc n) log h =
     ⊎-elim
     (λ (short : length log < 24).
-      ⊎-elim (λ (none : length log ≡ 0). ([], no-item log (sym (cond-true _ _ _ (eq-eqb (length log) 0 none)))))
-      (λ (some : length log ≡ 0 → ⊥). (Err Tail ∷ [], tail log (omega (arith, some)) (omega arith)))
-      (cases-eq (length log) 0))
+    ⊎-elim (λ (none : length log ≡ 0). ([], no-item log (sym (cond-true _ _ _ (eq-eqb (length log) 0 none)))))
+    (λ (some : length log ≡ 0 → ⊥). (Err Tail ∷ [], tail log (omega (arith, some)) (omega arith)))
+    (cases-eq (length log) 0))
     (λ (long : 24 ≤ length log).
-      let rest = some-by n (drop 24 log) (simp length-drop (omega arith)) in
-      (_, one-item log _ (rest .0) (sym (first-record log long)) (rest .1)))
+    let rest = some-by n (drop 24 log) (simp length-drop (omega arith)) in
+    (_, one-item log _ (rest .0) (sym (first-record log long)) (rest .1)))
     (cases-lt (length log) 24)
 
 some : (log : List ℕ) → Reads-as log (log-of log)

@@ -5,8 +5,8 @@ use crate::kind::kind_word;
 use keys::Badge;
 use std::fmt;
 
-// What a console logged: a kind, a time in tenths of a second, whose event it is, and four readings. A kind over 15 is no
-// kind; an event may hold one, and whoever takes the event refuses it.
+// What a console logged, with the time in tenths of a second. A number over 15 is no kind; that an event may hold one leaves it
+// to whoever takes events to refuse it.
 #[derive(Clone, Copy)]
 pub struct Event<K> {
     pub kind: u8,

@@ -7,7 +7,7 @@ ghost use Rattle.events.specs.Record.{fields, decoded, values-in, signed-32, I
 use crate::event::Event;
 use keys::Badge;
 
-// A record has 24 bytes: kind 4 bits, time 32, badge 28, and four readings of 32 each, most significant bit first.
+// From the highest bit: the kind (4 bits), the time (32), the badge (28), and four readings (32 each).
 pub const RECORD_LEN: usize = 24;
 
 // The event of a record. Every record has one.

@@ -11,11 +11,11 @@ same-test false true there back = back refl
 same-test false false there back = refl
 
 pub lawful : {K I : Type 0} (identity : K → I) (alike : K → K → Bool) (shelf : K → ℕ) →
-  ((a b : K) → alike a b ≡ true → identity a ≡ identity b) →
-  ((a b : K) → identity a ≡ identity b → alike a b ≡ true) →
-  ((a : K) → shelf a < 16) →
-  ((a b : K) → identity a ≡ identity b → shelf a ≡ shelf b) →
-  Lawful identity alike shelf
+    ((a b : K) → alike a b ≡ true → identity a ≡ identity b) →
+    ((a b : K) → identity a ≡ identity b → alike a b ≡ true) →
+    ((a : K) → shelf a < 16) →
+    ((a b : K) → identity a ≡ identity b → shelf a ≡ shelf b) →
+    Lawful identity alike shelf
 lawful identity alike shelf sound complete below together = record {
   sound = sound;
   complete = complete;

@@ -4,7 +4,7 @@ ghost use mathlib.Core.Path.{_≡_};
 ghost use Prim.Native.Nat.{ℕ, _<_};
 ghost use Rattle.keys.specs.Key.{Lawful};
 
-// A key has an identity, and answers two questions about it. Neither question refuses, or changes anything.
+// A key has an identity, and answers two questions about it.
 pub trait Key: Copy {
     // What two spellings of one key have in common.
     ghost Identity: { Type 0 };

@@ -1,4 +1,4 @@
-// Keys: what says whose event it is. The engine above is written once, for every kind of key.
+// Keys, which say whose an event is: what all kinds of key have in common, and two kinds, badges and names.
 mod badge;
 mod key;
 mod latin;

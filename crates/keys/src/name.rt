@@ -15,8 +15,7 @@ use crate::letters::letter_of;
 use crate::points::Points;
 use refusals::Refusal;
 
-// A name has 1 to 24 code points, which it keeps as they were given. It also keeps its identity and its shelf, so that
-// comparing two names takes nothing apart.
+// The spelling as it was given. Beside it stand the identity and the shelf, so that comparing two names takes nothing apart.
 #[derive(Clone, Copy)]
 pub struct Name {
     spelling: Points<24>,
@@ -116,7 +115,7 @@ fn kept(points: &[u32]) -> Points<24>
     spelling
 }
 
-// Goes over the code points in order, and writes base and mark for each letter of the table.
+// The identity: each letter of the table is written as its base and its mark.
 fn decompose(points: &[u32]) -> Points<48>
     requires { ⌜ length (now points) ≤ 24 ⌝ }
     ensures { λ r. ⌜ held r ≡ identity-of (now (points .entry)) ⌝ }

@@ -9,7 +9,6 @@ use lib.ListN.{length}
 use Rattle.keys.specs.Name.{same-points}
 use Rattle.roster.specs.Entries.{Entry, or-else, line-at}
 use Rattle.roster.specs.Tree.{line-of, by-points, by-identity, Ordered, placed}
-use Rattle.std.proofs.shelf.Equals.{compares-decides}
 use Rattle.std.proofs.shelf.Lawful.{sorted-from-test, test-from-sorted}
 use Rattle.std.proofs.shelf.Lookups.{exact-bytes}
 use Rattle.std.proofs.shelf.Tests.{true≢false, cond-true, cond-false, cases-bool}
@@ -17,18 +16,15 @@ use Rattle.std.specs.Finite.{All}
 use Rattle.std.specs.Keys.{unsigned}
 use Rattle.std.specs.Lexical.{lexical}
 use Rattle.std.specs.Options.{isSome}
-use Rattle.std.specs.Orderings.{isEq, isLt, isGt, reversed, Decides}
+use Rattle.keys.proofs.Spelt.{same-decides}
+use Rattle.std.specs.Orderings.{isEq, isLt, isGt, reversed}
 use Rattle.std.specs.Sorted.{Sorted}
 use Rattle.std.specs.declared.cmp.Ordering.{Ordering}
 use Rattle.std.specs.declared.cmp.Ordering.the-variants.{Less, Equal, Greater}
 use Rattle.std.specs.declared.option.Option.{Option}
 use Rattle.std.specs.declared.option.Option.the-variants.{None, Some}
-use borrow.Author.Needs.{needs}
 
 -- ---- the order of identities
-
-pub same-decides : (xs ys : List ℕ) → Decides (same-points xs ys) (xs ≡ ys)
-same-decides = compares-decides same-points (search needs)
 
 level : (r : Ordering) → r ≡ reversed r → r ≡ Equal
 level Less e = absurd (true≢false (ap isLt e))

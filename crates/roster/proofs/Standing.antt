@@ -9,7 +9,8 @@ use Rattle.keys.specs.Name.{same-points}
 use Rattle.roster.specs.Entries.{Entry, or-else, line-at, first-line}
 use Rattle.roster.specs.Tree.{members-in, line-of, placed, Stands, Entered}
 use Rattle.roster.specs.declared.tree.Tree.{Tree}
-use Rattle.roster.proofs.Places.{same-decides, or-none, missed, line-placed, length-placed}
+use Rattle.keys.proofs.Spelt.{same-decides}
+use Rattle.roster.proofs.Places.{or-none, missed, line-placed, length-placed}
 use Rattle.std.proofs.shelf.Tests.{cond-true, cond-false, cases-bool}
 use Rattle.std.specs.Options.{isSome, valueOr}
 use Rattle.std.specs.declared.alloc.AllocError.{AllocError}

@@ -7,7 +7,7 @@ use Rattle.refusals.specs.Numbers.{refused-line}
 use Rattle.roster.specs.declared.lines.End.{End}
 use Rattle.roster.specs.declared.lines.Listed.{Listed}
 use Rattle.roster.specs.declared.listing.Answer.{Answer}
-use Rattle.roster.specs.declared.listing.Answer.the-variants.{Name, Refused}
+use Rattle.roster.specs.declared.listing.Answer.the-variants.{Member, Refused}
 use Rattle.std.specs.Written.{decimal}
 
 -- name LINE FIRST SHELF
@@ -16,7 +16,7 @@ name-line x = spaced (codes "name") (decimal (x .line) ∷ decimal (x .first) �
 
 -- what a line is answered with
 abbrev pub answer-line : Answer → List ℕ
-answer-line (Name x) = name-line x
+answer-line (Member x) = name-line x
 answer-line (Refused x) = refused-line x
 
 -- end LINES MEMBERS

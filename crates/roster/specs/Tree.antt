@@ -63,3 +63,7 @@ pub record Stands (t : Tree) (entries : List Entry) : Type 0 where
 abbrev pub Entered : {E : Type 0} → List ℕ → ℕ → List Entry → Tree → Result ℕ E → Type 0
 Entered i line entries t (Ok first) = (first ≡ valueOr (first-line i entries) line) × Stands t ((i, line) ∷ entries)
 Entered i line entries t (Err e) = (first-line i entries ≡ None) × Stands t entries
+
+-- the same, for every list of entries that the tree before it stood for
+abbrev pub Enters : {E : Type 0} → Tree → List ℕ → ℕ → Tree → Result ℕ E → Type 0
+Enters before i line after r = (entries : List Entry) → Stands before entries → Entered i line entries after r

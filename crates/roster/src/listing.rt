@@ -1,11 +1,7 @@
 // What is answered to a line of the list.
-ghost use mathlib.Core.List.{List};
 ghost use Rattle.keys.specs.Name.{name-answer};
-ghost use Rattle.roster.specs.Entries.{Entry};
-ghost use Rattle.roster.specs.Listing.{Answered};
+ghost use Rattle.roster.specs.Listing.{Lists};
 ghost use Rattle.roster.specs.Printed.{answer-line};
-ghost use Rattle.roster.specs.Tree.{Stands};
-ghost use Rattle.std.specs.Results.{Cases};
 ghost use Rattle.std.specs.declared.option.Option.the-variants.{Some};
 ghost use Rattle.std.specs.shelf.Text.{decodes};
 use crate::lines::Listed;
@@ -21,7 +17,7 @@ use std::fmt;
 
 #[derive(Clone, Copy)]
 pub enum Answer {
-    Name(Listed),
+    Member(Listed),
     Refused(Refused),
 }
 
@@ -30,7 +26,7 @@ pub impl fmt::Display for Answer as AnswerDisplay {
 
     fn fmt<W: fmt::Write>(&self, f: &mut fmt::Formatter<W>) -> fmt::Result {
         match self {
-            Answer::Name(listed) => write!(f, "{listed}"),
+            Answer::Member(listed) => write!(f, "{listed}"),
             Answer::Refused(refused) => write!(f, "{refused}"),
         }
     }
@@ -39,13 +35,13 @@ pub impl fmt::Display for Answer as AnswerDisplay {
 impl Members {
     // Answers a line, and enters its name.
     pub fn list(&mut self, text: &str, line: u64) -> Result<Answer, AllocError>
-        ensures { λ r. ⌜ ((entries : List Entry) → Stands (now (self .entry) .tree) entries → Cases r (λ a. Answered (name-answer (decodes (now (text .entry)))) line entries (now (self .exit) .tree) a) (λ _. Stands (now (self .exit) .tree) entries)) ⌝ }
+        ensures { λ r. ⌜ Lists (now (self .entry) .tree) (name-answer (decodes (now (text .entry)))) line (now (self .exit) .tree) r ⌝ }
     {
         match Name::from_text(text) {
             Ok(name) => {
                 let first = self.enter(&name, line)?;
                 let shelf = name.shelf();
-                Ok(Answer::Name(Listed { line, first, shelf }))
+                Ok(Answer::Member(Listed { line, first, shelf }))
             }
             Err(refusal) => Ok(Answer::Refused(Refused { refusal, at: line })),
         }

@@ -3,7 +3,7 @@ ghost use mathlib.Core.List.{List, []};
 ghost use mathlib.Core.Path.{_≡_};
 ghost use lib.ListN.{length};
 ghost use Rattle.roster.specs.Entries.{Entry, name-identity, different};
-ghost use Rattle.roster.specs.Tree.{members-in, Ordered, Stands, Entered};
+ghost use Rattle.roster.specs.Tree.{members-in, Ordered, Stands, Enters};
 use crate::tree::Branch;
 use crate::tree::Tree;
 use keys::Name;
@@ -32,8 +32,8 @@ impl Members {
     }
 
     // Enters the name of a line, and answers with the first line that had it.
-    pub fn enter(&mut self, name: &Name, line: u64) -> Result<u64, AllocError>
-        ensures { λ r. ⌜ ((entries : List Entry) → Stands (now (self .entry) .tree) entries → Entered (name-identity (now (name .entry))) line entries (now (self .exit) .tree) r) ⌝ }
+    pub(crate) fn enter(&mut self, name: &Name, line: u64) -> Result<u64, AllocError>
+        ensures { λ r. ⌜ Enters (now (self .entry) .tree) (name-identity (now (name .entry))) line (now (self .exit) .tree) r ⌝ }
     {
         if let Some(first) = self.tree.line_of(name.identity()) {
             return Ok(first);

@@ -46,6 +46,6 @@ log-text n (Err r ∷ items) = line (more n) (Err r) ++ (10 ∷ log-text n items
 -- The text and the count of a log are those of its pieces, one after the other, where all but the last have whole records.
 pub record Piecewise : Type 0 where
   pub text : (k n : ℕ) (front back : List ℕ) → length front ≡ 24 * k →
-    log-text n (log-of (front ++ back)) ≡ log-text n (log-of front) ++ log-text (records-after n (log-of front)) (log-of back)
+      log-text n (log-of (front ++ back)) ≡ log-text n (log-of front) ++ log-text (records-after n (log-of front)) (log-of back)
   pub count : (k n : ℕ) (front back : List ℕ) → length front ≡ 24 * k →
-    records-after n (log-of (front ++ back)) ≡ records-after (records-after n (log-of front)) (log-of back)
+      records-after n (log-of (front ++ back)) ≡ records-after (records-after n (log-of front)) (log-of back)

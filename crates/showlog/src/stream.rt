@@ -12,7 +12,12 @@ use std::io::Read;
 use std::io::Write;
 
 // Describes the log that `input` gives, through a chunk that has room for whole records alone.
-pub fn show(heap: Global, input: &mut impl Read, out: &mut impl Write, chunk: &mut [u8]) -> Result<(), AnyError> {
+pub fn show(
+    heap: Global,
+    input: &mut impl Read,
+    out: &mut impl Write,
+    chunk: &mut [u8],
+) -> Result<(), AnyError> {
     let mut text = String::new(heap);
     let mut records = 0;
     for _ in 0..u64::MAX {
@@ -69,7 +74,10 @@ mod tests {
     // The length of a log whose bytes count up from 0, and how its text ends.
     const LENGTHS: [(usize, &str); 7] = [
         (0, "end 0\n"),
-        (47, "1 BADGEIN 1056816 67438087 134810123 202182159 269554195 336926231\nrefused 24 2\nend 1\n"),
+        (
+            47,
+            "1 BADGEIN 1056816 67438087 134810123 202182159 269554195 336926231\nrefused 24 2\nend 1\n",
+        ),
         (48, "end 2\n"),
         (49, "refused 24 3\nend 2\n"),
         (96, "end 4\n"),
@@ -95,7 +103,10 @@ mod tests {
             for most in [1, 7, 24, 47, 100] {
                 let mut pieces = Vec::new(heap);
                 let mut small = [0; 48];
-                let mut input = Slow { rest: &log[0..len], most };
+                let mut input = Slow {
+                    rest: &log[0..len],
+                    most,
+                };
                 show(heap, &mut input, &mut pieces, &mut small)?;
                 check(pieces.as_slice() == whole.as_slice())?;
             }

@@ -15,9 +15,10 @@ pub returns : need.returns
 returns c =
     let from : unread (c .into-iter-item-iterator .result) ≡ c .args .log .now = ap unread (c .into-iter-item-iterator .ensures .becomes) ∙ c .new-item-items .ensures in
     let read : map told (c .loop-item .yielded) ≡ log-of (c .args .log .now) =
-      whole-log .given (c .into-iter-item-iterator .result) (c .loop-item .yielded) (c .next .last .self, (c .loop-item .item-iterator, c .loop-item .yielded-by, c .in-None .ensures tt .steps)) ∙ ap log-of from in
-    (c .loop-item .inv .0 ∙ ap (λ (items : List Told). string-bytes (c .args .text .now) ++ log-text (c .args .before) items) read,
-      c .loop-item .inv .1 ∙ ap (records-after (c .args .before)) read)
+    whole-log .given (c .into-iter-item-iterator .result) (c .loop-item .yielded) (c .next .last .self, (c .loop-item .item-iterator, c .loop-item .yielded-by, c .in-None .ensures tt .steps)) ∙ ap log-of from in (
+      c .loop-item .inv .0 ∙ ap (λ (items : List Told). string-bytes (c .args .text .now) ++ log-text (c .args .before) items) read,
+      c .loop-item .inv .1 ∙ ap (records-after (c .args .before)) read,
+    )
 
 pub loop-item-again : need.loop-item-again
 loop-item-again c =
