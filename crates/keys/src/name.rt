@@ -15,7 +15,7 @@ use crate::letters::letter_of;
 use crate::points::Points;
 use refusals::Refusal;
 
-// The spelling as it was given. Beside it stand the identity and the shelf, so that comparing two names takes nothing apart.
+// A spelling, as it was given. Beside it stand the identity and the shelf, so that comparing two names takes nothing apart.
 #[derive(Clone, Copy)]
 pub struct Name {
     spelling: Points<24>,
@@ -27,11 +27,14 @@ pub struct Name {
 }
 
 impl Name {
+    // The largest number of code points in a spelling. Each may be taken apart into two.
+    pub const MAX: usize = 24;
+
     // The name with these code points. Refused where there are none or more than 24, and then where one is not allowed.
     pub fn new(points: &[u32]) -> Result<Name, Refusal>
         ensures { λ r. ⌜ answered (λ n. held (n .spelling)) r ≡ name-answer (now (points .entry)) ⌝ }
     {
-        if points.is_empty() || points.len() > 24 {
+        if points.is_empty() || points.len() > Name::MAX {
             return Err(Refusal::NameLength);
         }
         if !are_allowed(points) {
