@@ -1,12 +1,12 @@
 -- The fault that comes first is the least. Assumes nothing.
 use mathlib.Core.Path.{_≡_, refl, sym, ap, _∙_}
-use mathlib.Core.Logic.{⊎-elim}
+use mathlib.Core.Logic.{inl, inr, ⊎-elim}
 use mathlib.Core.List.{List, [], _∷_}
 use Prim.Native.Nat.{ℕ, zero, suc, _-_, _≤_, _<_}
 use native.Mathlib.Omega.{arith}
 use lib.ListN.{length}
 use Rattle.letters.proofs.Scanning.{Shorter, shorter-cut, blanks-shorter}
-use Rattle.letters.specs.Faults.{place-of, Judged, small, judged-at, judged, first-fault, letters-answer, Letters-law}
+use Rattle.letters.specs.Faults.{number-of, place-of, No-later, Judged, small, judged-at, judged, first-fault, letters-answer, Letters-law}
 use Rattle.letters.specs.Numbers.{number-value}
 use Rattle.letters.specs.Tokens.{Tok, Cut, Placed, after-cut, token-at, past-blanks, tokens-by, tokens-of}
 use Rattle.letters.specs.Tokens.Tok.{word, number, mark, stray}
@@ -31,10 +31,10 @@ place-is (number ds) p g e = small-place p (number-value ds) g e
 place-is (mark s) p g e = let z : _≡_ {A = ℕ} 0 1 = cc in absurd (omega arith)
 place-is (stray b) p g e = let f : StrayByte p ≡ g = cc in sym (ap place-of f)
 
--- each token stands at or before those that follow it
+-- each token stands before those that follow it
 abbrev Ascends : List Placed → Type 0
 Ascends [] = Unit {0}
-Ascends (t ∷ ts) = All (λ u. t .1 ≤ u .1) ts × Ascends ts
+Ascends (t ∷ ts) = All (λ u. t .1 < u .1) ts × Ascends ts
 
 -- the tokens of what is left stand where it begins, or later
 from-cut : (end whole left : ℕ) (c : Cut) → Shorter left c → left ≤ whole → (more : List ℕ → List Placed) →
@@ -48,16 +48,18 @@ from-place zero end bs = tt
 from-place (suc n) end bs =
     from-cut end (length bs) (length (past-blanks bs)) (token-at (past-blanks bs)) (shorter-cut (past-blanks bs)) (blanks-shorter bs) (tokens-by n end) (from-place n end)
 
-ascends-cut : (end left : ℕ) (c : Cut) → Shorter left c → (more : List ℕ → List Placed) →
-    ((rest : List ℕ) → All (λ u. end - length rest ≤ u .1) (more rest)) → ((rest : List ℕ) → Ascends (more rest)) → Ascends (after-cut end left c more)
-ascends-cut end left None h more begins rises = tt
-ascends-cut end left (Some c) h more begins rises =
-    (all-weaker (λ (u : Placed). end - length (c .1) ≤ u .1) (λ (u : Placed). end - left ≤ u .1) (λ u k. omega arith) (more (c .1)) (begins (c .1)), rises (c .1))
+ascends-cut : (end left : ℕ) (c : Cut) → Shorter left c → left ≤ end → (more : List ℕ → List Placed) →
+    ((rest : List ℕ) → All (λ u. end - length rest ≤ u .1) (more rest)) → ((rest : List ℕ) → length rest < left → Ascends (more rest)) → Ascends (after-cut end left c more)
+ascends-cut end left None h l more begins rises = tt
+ascends-cut end left (Some c) h l more begins rises =
+    (all-weaker (λ (u : Placed). end - length (c .1) ≤ u .1) (λ (u : Placed). end - left < u .1) (λ u k. omega arith) (more (c .1)) (begins (c .1)), rises (c .1) h)
 
-ascends : (n end : ℕ) (bs : List ℕ) → Ascends (tokens-by n end bs)
-ascends zero end bs = tt
-ascends (suc n) end bs =
-    ascends-cut end (length (past-blanks bs)) (token-at (past-blanks bs)) (shorter-cut (past-blanks bs)) (tokens-by n end) (from-place n end) (ascends n end)
+ascends : (n end : ℕ) (bs : List ℕ) → length bs ≤ end → Ascends (tokens-by n end bs)
+ascends zero end bs l = tt
+ascends (suc n) end bs l =
+    let less = blanks-shorter bs in
+    ascends-cut end (length (past-blanks bs)) (token-at (past-blanks bs)) (shorter-cut (past-blanks bs)) (omega arith) (tokens-by n end) (from-place n end)
+    (λ rest h. ascends n end rest (omega arith))
 
 never : (f : LetterFault) → _≡_ {A = Judged} (Ok tt) (Err f) → ⊥
 never f e = let z : _≡_ {A = ℕ} 0 1 = cc in omega arith
@@ -72,6 +74,10 @@ clean : (ts : List Placed) → first-fault ts ≡ Ok tt → All (λ t. judged t 
 clean [] e = tt
 clean (u ∷ ts) e = clean-by (judged u) u ts refl e (clean ts)
 
+cleared : (ts : List Placed) → All (λ t. judged t ≡ Ok tt) ts → first-fault ts ≡ Ok tt
+cleared [] a = refl
+cleared (u ∷ ts) a = ap (λ (j : Judged). andOther j (first-fault ts)) (a .0) ∙ cleared ts (a .1)
+
 abbrev Some-fault : List Placed → LetterFault → Type 0
 Some-fault ts f = (t : Placed) × Has ts t × (judged t ≡ Err f)
 
@@ -85,15 +91,18 @@ some [] f e = absurd (never f e)
 some (u ∷ ts) f e = some-by (judged u) u ts f refl e (some ts f)
 
 abbrev Later : LetterFault → Placed → Type 0
-Later f t = (g : LetterFault) → judged t ≡ Err g → place-of f ≤ place-of g
+Later f t = (g : LetterFault) → judged t ≡ Err g → No-later f g
 
-least-by : (j : Judged) (u : Placed) (ts : List Placed) (f : LetterFault) → judged u ≡ j → All (λ t. u .1 ≤ t .1) ts → andOther j (first-fault ts) ≡ Err f →
+same-fault : (f g : LetterFault) → _≡_ {A = Judged} (Err f) (Err g) → No-later f g
+same-fault f g e = let same : f ≡ g = cc in inr (ap place-of same, omega (arith, ap number-of same))
+
+least-by : (j : Judged) (u : Placed) (ts : List Placed) (f : LetterFault) → judged u ≡ j → All (λ t. u .1 < t .1) ts → andOther j (first-fault ts) ≡ Err f →
     (first-fault ts ≡ Err f → All (Later f) ts) → All (Later f) (u ∷ ts)
 least-by (Ok x) u ts f is after e rest = ((λ g no. absurd (never g (sym is ∙ no))), rest e)
 least-by (Err h) u ts f is after e rest =
     let here : place-of f ≡ u .1 = place-is (u .0) (u .1) f (is ∙ e) in (
-      (λ g same. let there = place-is (u .0) (u .1) g same in omega arith),
-      all-weaker (λ (t : Placed). u .1 ≤ t .1) (Later f) (λ t k g same. let there = place-is (t .0) (t .1) g same in omega arith) ts after,
+      (λ g same. same-fault f g (sym (is ∙ e) ∙ same)),
+      all-weaker (λ (t : Placed). u .1 < t .1) (Later f) (λ t k g same. let there = place-is (t .0) (t .1) g same in inl (omega arith)) ts after,
     )
 
 least : (ts : List Placed) → Ascends ts → (f : LetterFault) → first-fault ts ≡ Err f → All (Later f) ts
@@ -107,10 +116,11 @@ by-tokens text short = cond-false _ _ _ (le-ltb 4096 (length text) short)
 too-long : (text : List ℕ) → 4096 < length text → letters-answer text ≡ Err LongText
 too-long text long = cond-true _ _ _ (lt-ltb 4096 (length text) long)
 
-pub letters-law : Letters-law
-letters-law = record {
-  long = too-long;
-  clean = λ text e. ⊎-elim (λ (long : 4096 < length text). absurd (never LongText (sym e ∙ too-long text long))) (λ (short : length text ≤ 4096). clean _ (sym (by-tokens text short) ∙ e)) (cases-lt 4096 (length text));
-  some = λ text f short e. some _ f (sym (by-tokens text short) ∙ e);
-  least = λ text f short e. least _ (ascends (length text) (length text) text) f (sym (by-tokens text short) ∙ e);
+pub letters-law : (text : List ℕ) → Letters-law text
+letters-law text = record {
+  long = too-long text;
+  clean = λ e. ⊎-elim (λ (long : 4096 < length text). absurd (never LongText (sym e ∙ too-long text long))) (λ (short : length text ≤ 4096). (short, clean _ (sym (by-tokens text short) ∙ e))) (cases-lt 4096 (length text));
+  cleared = λ short a. by-tokens text short ∙ cleared _ a;
+  some = λ f short e. some _ f (sym (by-tokens text short) ∙ e);
+  least = λ f short e. least _ (ascends (length text) (length text) text (omega arith)) f (sym (by-tokens text short) ∙ e);
 }

@@ -7,17 +7,17 @@ use Prim.Native.Nat.{ℕ, zero, suc, _+_, _-_, _≤_, _<_}
 use native.Mathlib.Numerals.{one-add}
 use native.Mathlib.Omega.{arith}
 use lib.ListN.{length, getD, take, drop, length-drop}
-use Rattle.letters.specs.Bytes.{is-digit, is-word, is-blank}
+use Rattle.letters.specs.Bytes.{is-digit, is-letter, is-word, is-blank}
 use Rattle.letters.specs.Symbols.{Found, symbol-at, one-byte, two-bytes, takes-equal, equal-next}
 use Rattle.letters.specs.Tokens.{Tok, Cut, marked, token-at, Placed, after-cut, past-blanks, tokens-by, tokens-of}
 use Rattle.letters.specs.Tokens.Tok.{stray}
 use Rattle.std.proofs.shelf.Lists.{take-rest}
-use Rattle.std.proofs.shelf.Tests.{cond-true, cond-false, cond-both, false≢true, and-parts, cases-bool}
+use Rattle.std.proofs.shelf.Tests.{cond-true, cond-false, cond-both, false≢true, and-parts, or-right, cases-bool}
 use Rattle.std.specs.declared.option.Option.the-variants.{Some, None}
 use Rattle.std.specs.shelf.Lists.{leading}
 
 -- the first byte alone, where nothing else stands at the front
-pub stray-at : (xs : List ℕ) → 1 ≤ length xs → is-digit (getD xs 0 0) ≡ false → is-word (getD xs 0 0) ≡ false → symbol-at xs ≡ None →
+pub stray-at : (xs : List ℕ) → 1 ≤ length xs → is-digit (getD xs 0 0) ≡ false → is-letter (getD xs 0 0) ≡ false → symbol-at xs ≡ None →
     Some (stray (getD xs 0 0), take (length xs - 1) (drop 1 xs)) ≡ token-at xs
 stray-at [] some no-digit no-word no-symbol = absurd (omega arith)
 stray-at (b ∷ bs) some no-digit no-word no-symbol =
@@ -42,7 +42,7 @@ pub shorter-cut : (xs : List ℕ) → Shorter (length xs) (token-at xs)
 shorter-cut [] = tt
 shorter-cut (b ∷ bs) =
     cond-both (is-digit b) _ _ (Shorter (length (b ∷ bs))) (λ e. run-shorter is-digit b bs e)
-    (λ _. cond-both (is-word b) _ _ (Shorter (length (b ∷ bs))) (λ e. run-shorter is-word b bs e)
+    (λ _. cond-both (is-letter b) _ _ (Shorter (length (b ∷ bs))) (λ e. run-shorter is-word b bs (or-right (is-digit b) (is-letter b) e))
     (λ _. cond-both _ _ _ (λ (f : Found). Shorter (length (b ∷ bs)) (marked b bs f)) (λ e. two-shorter b bs (and-parts (takes-equal b) (equal-next bs) e .1)) (λ _. one-shorter b bs)))
 
 pub shorter : (xs : List ℕ) (t : Tok) (after : List ℕ) → token-at xs ≡ Some (t, after) → length after < length xs

@@ -2,6 +2,7 @@
 use Prim.Native.Nat.{ℕ, _≤_, _<_}
 use mathlib.Core.Path.{_≡_}
 use mathlib.Core.Bool.{cond}
+use mathlib.Core.Logic.{_⊎_}
 use mathlib.Core.List.{List, [], _∷_}
 use lib.Dec.{ltb}
 use lib.ListN.{length}
@@ -55,12 +56,16 @@ first-fault (t ∷ ts) = andOther (judged t) (first-fault ts)
 abbrev pub letters-answer : List ℕ → Judged
 letters-answer text = cond (ltb 4096 (length text)) (Err LongText) (first-fault (tokens-of (length text) text))
 
--- What the answer means: the length comes before all else. Otherwise there is no fault where no token has one; and a fault is that
--- of a token, and no token's fault has an earlier place.
-pub record Letters-law : Type 0 where
-  pub long : (text : List ℕ) → 4096 < length text → letters-answer text ≡ Err LongText
-  pub clean : (text : List ℕ) → letters-answer text ≡ Ok tt → All (λ t. judged t ≡ Ok tt) (tokens-of (length text) text)
-  pub some : (text : List ℕ) (f : LetterFault) → length text ≤ 4096 → letters-answer text ≡ Err f →
-      (t : Placed) × Has (tokens-of (length text) text) t × (judged t ≡ Err f)
-  pub least : (text : List ℕ) (f : LetterFault) → length text ≤ 4096 → letters-answer text ≡ Err f →
-      All (λ t. (g : LetterFault) → judged t ≡ Err g → place-of f ≤ place-of g) (tokens-of (length text) text)
+-- one fault is no later than another: it has the smaller place, or the same place and no larger number
+abbrev pub No-later : LetterFault → LetterFault → Type 0
+No-later f g = (place-of f < place-of g) ⊎ ((place-of f ≡ place-of g) × (number-of f ≤ number-of g))
+
+-- What the answer for a text means. A text that is too long has that fault. Of any other, no fault is answered exactly where no token
+-- has one; and a fault that is answered is a token's, and no later than that of any token.
+pub record Letters-law (text : List ℕ) : Type 0 where
+  pub long : 4096 < length text → letters-answer text ≡ Err LongText
+  pub clean : letters-answer text ≡ Ok tt → (length text ≤ 4096) × All (λ t. judged t ≡ Ok tt) (tokens-of (length text) text)
+  pub cleared : length text ≤ 4096 → All (λ t. judged t ≡ Ok tt) (tokens-of (length text) text) → letters-answer text ≡ Ok tt
+  pub some : (f : LetterFault) → length text ≤ 4096 → letters-answer text ≡ Err f → (t : Placed) × Has (tokens-of (length text) text) t × (judged t ≡ Err f)
+  pub least : (f : LetterFault) → length text ≤ 4096 → letters-answer text ≡ Err f →
+      All (λ t. (g : LetterFault) → judged t ≡ Err g → No-later f g) (tokens-of (length text) text)

@@ -36,7 +36,7 @@ takes-equal b = eqb b 33 || (eqb b 60 || eqb b 62)
 
 -- != <= >=
 abbrev pub two-bytes : ℕ → List ℕ → Found
-two-bytes b rest = cond (eqb b 33) (Some (NotEqual, rest)) (cond (eqb b 60) (Some (AtMost, rest)) (Some (AtLeast, rest)))
+two-bytes b rest = cond (eqb b 33) (Some (NotEqual, rest)) (cond (eqb b 60) (Some (AtMost, rest)) (cond (eqb b 62) (Some (AtLeast, rest)) None))
 
 abbrev pub equal-next : List ℕ → Bool
 equal-next [] = false

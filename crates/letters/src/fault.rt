@@ -11,7 +11,7 @@ use crate::token::next_token;
 pub const LONGEST: usize = 4096;
 
 // What is wrong, and where. The place of a long text is its first byte too many.
-#[derive(Clone, Copy, PartialEq, Eq, Debug)]
+#[derive(Clone, Copy)]
 pub enum LetterFault {
     StrayByte(usize),
     LongNumber(usize),
@@ -54,9 +54,10 @@ fn judge(spanned: Spanned) -> Result<(), LetterFault>
     }
 }
 
-// Goes over the whole text, and answers the fault that comes first.
+// The fault of a text that is too long, or else the one that comes first, if there is any.
 pub fn check_letters(text: &[u8]) -> Result<(), LetterFault>
-    ensures { λ r. ⌜ r ≡ letters-answer (now (text .entry)) ⌝ }
+    ensures answer { λ r. ⌜ r ≡ letters-answer (now (text .entry)) ⌝ }
+    ensures law { λ _. ⌜ Letters-law (now (text .entry)) ⌝ }
 {
     if text.len() > LONGEST {
         return Err(LetterFault::LongText);
@@ -67,11 +68,4 @@ pub fn check_letters(text: &[u8]) -> Result<(), LetterFault>
         rest = after;
     }
     Ok(())
-}
-
-// The fault that is answered is the least by its place of all faults in the letters, the length's before any other.
-pub fn first_fault_is_least() -> u8
-    ensures { λ _. ⌜ Letters-law ⌝ }
-{
-    0
 }

@@ -22,7 +22,7 @@ pub enum Symbol {
 }
 
 // The longest symbol at the front of the text, and what follows it.
-pub fn first_symbol(text: &[u8]) -> Option<(Symbol, &[u8])>
+pub(crate) fn first_symbol(text: &[u8]) -> Option<(Symbol, &[u8])>
     ensures { λ r. ⌜ symbol-seen r ≡ symbol-at (now (text .entry)) ⌝ }
 {
     match text {

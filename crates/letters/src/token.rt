@@ -2,8 +2,8 @@
 ghost use mathlib.Core.Path.{_≡_};
 ghost use Prim.Native.Nat.{ℕ, _≤_, _<_};
 ghost use lib.ListN.{length};
-ghost use Rattle.letters.specs.Bytes.{is-digit, is-word, is-blank};
-ghost use Rattle.letters.specs.Tokens.{token-at, token-seen, tokens-of, cut-seen};
+ghost use Rattle.letters.specs.Bytes.{is-digit, is-letter, is-word, is-blank};
+ghost use Rattle.letters.specs.Tokens.{token-at, token-seen, past-blanks, with-place, next-cut, next-seen, tokens-of, first-and-others};
 ghost use Rattle.std.specs.Slices.{found};
 ghost use Rattle.std.specs.shelf.Lists.{leading};
 use crate::symbol::Symbol;
@@ -11,16 +11,16 @@ use crate::symbol::first_symbol;
 
 #[derive(Clone, Copy)]
 pub enum Token<'a> {
-    // a longest run of letters and digits that begins with a letter
+    // letters and digits, a letter first
     Word(&'a [u8]),
-    // a longest run of digits
+    // digits
     Number(&'a [u8]),
     Mark(Symbol),
     // a byte that begins no token of a query
     Stray(u8),
 }
 
-// A token and its place, which is the number of bytes before it.
+// A token and its place: how many bytes of the text stand before it.
 #[derive(Clone, Copy)]
 pub struct Spanned<'a> {
     pub token: Token<'a>,
@@ -31,6 +31,12 @@ fn digit(b: u8) -> bool
     ensures { λ r. ⌜ r ≡ is-digit b ⌝ }
 {
     matches!(b, b'0'..=b'9')
+}
+
+fn letter(b: u8) -> bool
+    ensures { λ r. ⌜ r ≡ is-letter b ⌝ }
+{
+    matches!(b, b'A'..=b'Z' | b'a'..=b'z')
 }
 
 fn word_byte(b: u8) -> bool
@@ -84,8 +90,8 @@ fn blanks_len(text: &[u8]) -> usize
     n
 }
 
-// The token at the front of a text that does not begin with a blank, and what follows it.
-pub fn first_token<'a>(text: &'a [u8]) -> Option<(Token<'a>, &'a [u8])>
+// The token at the front of a text, and what follows it. A blank in front is taken for a stray byte.
+pub(crate) fn first_token<'a>(text: &'a [u8]) -> Option<(Token<'a>, &'a [u8])>
     ensures { λ r. ⌜ token-seen r ≡ token-at (now (text .entry)) ⌝ }
 {
     let [first, after @ ..] = text else {
@@ -95,7 +101,7 @@ pub fn first_token<'a>(text: &'a [u8]) -> Option<(Token<'a>, &'a [u8])>
         let (number, rest) = text.split_at(digits_len(text));
         return Some((Token::Number(number), rest));
     }
-    if word_byte(*first) {
+    if letter(*first) {
         let (word, rest) = text.split_at(word_len(text));
         return Some((Token::Word(word), rest));
     }
@@ -107,7 +113,8 @@ pub fn first_token<'a>(text: &'a [u8]) -> Option<(Token<'a>, &'a [u8])>
 
 // The first token of what is left of a text that has `end` bytes in all, and what follows it.
 pub fn next_token<'a>(text: &'a [u8], end: usize) -> Option<(Spanned<'a>, &'a [u8])>
-    ensures value { λ r. ⌜ cut-seen end r ≡ tokens-of end (now (text .entry)) ⌝ }
+    ensures value { λ r. ⌜ next-seen r ≡ next-cut end (now (text .entry)) ⌝ }
+    ensures tokens { λ r. ⌜ first-and-others end r ≡ tokens-of end (now (text .entry)) ⌝ }
     ensures shorter { λ r. ⌜ found r (λ p. length (now (p .1)) < length (now (text .entry))) ⌝ }
 {
     let rest = past_blanks(text);
@@ -116,6 +123,7 @@ pub fn next_token<'a>(text: &'a [u8], end: usize) -> Option<(Spanned<'a>, &'a [u
 
 // What is left behind the blanks at the front.
 fn past_blanks(text: &[u8]) -> &[u8]
+    ensures value { λ r. ⌜ now r ≡ past-blanks (now (text .entry)) ⌝ }
     ensures same { λ r. ⌜ ((end : ℕ) → tokens-of end (now r) ≡ tokens-of end (now (text .entry))) ⌝ }
     ensures bare { λ r. ⌜ leading is-blank (now r) ≡ 0 ⌝ }
     ensures shorter { λ r. ⌜ length (now r) ≤ length (now (text .entry)) ⌝ }
@@ -126,7 +134,8 @@ fn past_blanks(text: &[u8]) -> &[u8]
 
 fn token_here<'a>(text: &'a [u8], end: usize) -> Option<(Spanned<'a>, &'a [u8])>
     requires { ⌜ leading is-blank (now text) ≡ 0 ⌝ }
-    ensures value { λ r. ⌜ cut-seen end r ≡ tokens-of end (now (text .entry)) ⌝ }
+    ensures value { λ r. ⌜ next-seen r ≡ with-place end (length (now (text .entry))) (token-at (now (text .entry))) ⌝ }
+    ensures tokens { λ r. ⌜ first-and-others end r ≡ tokens-of end (now (text .entry)) ⌝ }
     ensures shorter { λ r. ⌜ found r (λ p. length (now (p .1)) < length (now (text .entry))) ⌝ }
 {
     let place = end.saturating_sub(text.len());

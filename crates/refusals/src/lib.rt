@@ -1,4 +1,4 @@
-// The refusals: every answer by which a call says no, each with the number that it is known by.
+// The refusals, each with the number that it is known by.
 ghost use mathlib.Core.Path.{_≡_};
 ghost use Rattle.refusals.specs.Numbers.{number-of, Distinct, refused-line};
 ghost use Rattle.std.specs.declared.option.Option.the-variants.{Some};

@@ -7,8 +7,8 @@ use Rattle.std.proofs.shelf.Sums.{leading-le-length}
 pub split-at-requires : need.split-at-requires
 split-at-requires c κs = search (needs, leading-le-length)
 
-pub split-at-requires-then-word-byte : need.split-at-requires-then-word-byte
-split-at-requires-then-word-byte c κs = search (needs, leading-le-length)
+pub split-at-requires-then-letter : need.split-at-requires-then-letter
+split-at-requires-then-letter c κs = search (needs, leading-le-length)
 
 pub returns-in-None : need.returns-in-None
 returns-in-None c = stray-at (c .args .text .now) (search needs) (search needs) (search needs) (sym (c .in-None .ensures tt))

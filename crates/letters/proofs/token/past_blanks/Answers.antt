@@ -17,6 +17,7 @@ returns c =
     let text = c .args .text .now in
     let left : c .split-at .result .1 .now ≡ past-blanks text = c .split-at .ensures .back ∙ ap (λ (n : ℕ). drop n text) (c .blanks-len .ensures) in
     record {
+      value = left;
       same = λ end. ap (tokens-of end) left ∙ same-tokens end text;
       bare = ap (leading is-blank) left ∙ bare text;
       shorter = rw left (blanks-shorter text);
