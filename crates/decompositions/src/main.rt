@@ -1,5 +1,7 @@
 // Compares every name of one code point with the decompositions that Unicode publishes for U+0000 to U+00FF: those letters must be
 // taken apart as published, and every other code point must stay as it is.
+#![tactic(auto)]
+
 use anyhow::Context;
 use keys::{Key, Name};
 use std::alloc::Global;

@@ -1,4 +1,6 @@
 // Events that consoles log, and the badge log that they come in.
+#![tactic(auto)]
+
 mod event;
 mod kind;
 mod log;

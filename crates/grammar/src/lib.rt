@@ -1,4 +1,6 @@
 // The grammar of queries: what a row of tokens reads as. Here are the readers of single tokens and of tests, and the law of the whole grammar.
+#![tactic(auto)]
+
 mod expected;
 mod fault;
 mod known;

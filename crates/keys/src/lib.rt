@@ -1,4 +1,6 @@
 // Keys, which say whose an event is: what all kinds of key have in common, and two kinds, badges and names.
+#![tactic(auto)]
+
 mod badge;
 mod key;
 mod latin;

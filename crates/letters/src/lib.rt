@@ -1,4 +1,6 @@
 // The letters of a query text: which stretches of it are tokens, and where it has none.
+#![tactic(auto)]
+
 mod fault;
 mod number;
 mod symbol;

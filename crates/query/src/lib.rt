@@ -1,4 +1,6 @@
 // Queries: the reader of their texts.
+#![tactic(auto)]
+
 mod contents;
 mod fault;
 mod query;

@@ -1,4 +1,6 @@
 // The refusals, each with the number that it is known by.
+#![tactic(auto)]
+
 ghost use Rattle.std.specs.Prelude.{◌≡◌, Some};
 ghost use Rattle.refusals.specs.Numbers.{number_of, Distinct, refused_line};
 

@@ -1,4 +1,6 @@
 // Reads names, one a line, and says of each which line first had it: one member, however the name is spelled.
+#![tactic(auto)]
+
 mod lines;
 mod listing;
 mod members;

@@ -1,5 +1,7 @@
 // The sense of a query: whether what its text says keeps the limits. A draft takes up what a text says, piece by piece, and knows the first
 // fault so far. It has room for what a query may have; of what is beyond that it keeps only the fault.
+#![tactic(auto)]
+
 mod clauses;
 mod draft;
 mod fault;

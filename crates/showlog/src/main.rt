@@ -1,4 +1,6 @@
 // showlog: a badge log on standard input, in words on standard output.
+#![tactic(auto)]
+
 mod lines;
 mod stream;
 mod text;
