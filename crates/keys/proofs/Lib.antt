@@ -1,2 +1,4 @@
 pub mod Alike
 pub mod Decoded
+pub mod Spelt
+pub mod Table

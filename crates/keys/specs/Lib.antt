@@ -3,5 +3,3 @@ pub mod Key
 pub mod Letters
 pub mod Name
 pub mod Points
-pub mod Spelt
-pub mod Table

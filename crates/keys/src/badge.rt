@@ -2,7 +2,7 @@
 ghost use Rattle.std.specs.Prelude.{◌≡◌, ℕ, ◌%◌, ◌^◌, ◌<◌, ◌==◌};
 ghost use Rattle.keys.specs.Badge.{badge_answer};
 ghost use Rattle.refusals.specs.Answers.{answered};
-ghost use Rattle.std.proofs.Common.{rules, arith};
+ghost use Rattle.std.proofs.Common.{rules};
 
 use crate::key::Key;
 use refusals::Refusal;
@@ -44,13 +44,13 @@ impl Key for Badge {
 
     ghost shelved = { λ b. b.number % 16 };
 
-    ghost sound = { first_of (Prim.search rules, Prim.grind (arith, Self.row.coded.inj)) };
+    ghost sound = { Prim.search rules };
 
-    ghost complete = { first_of (Prim.search rules, Prim.grind (arith, Self.row.coded.inj)) };
+    ghost complete = { Prim.search rules };
 
-    ghost below = { first_of (Prim.search rules, Prim.grind (arith, Self.row.coded.inj)) };
+    ghost below = { Prim.search rules };
 
-    ghost together = { first_of (Prim.search rules, Prim.grind (arith, Self.row.coded.inj)) };
+    ghost together = { Prim.search rules };
 
     fn same(&self, other: &Badge) -> bool {
         other.number == self.number

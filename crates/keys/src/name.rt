@@ -4,8 +4,8 @@ ghost use Rattle.keys.specs.Name.{allowed, all_allowed, name_answer, identity_of
 ghost use Rattle.keys.specs.Points.{held};
 ghost use Rattle.refusals.specs.Answers.{answered};
 ghost use Rattle.std.specs.Str.{chars};
-ghost use Rattle.keys.specs.Spelt.{same_decides};
-ghost use Rattle.std.proofs.Common.{rules, arith};
+ghost use Rattle.std.proofs.Common.{rules};
+ghost use Rattle.std.proofs.lemmas.Slice.Eq.{compares_Decides};
 
 use crate::key::Key;
 use crate::letters::letter_of;
@@ -159,13 +159,13 @@ impl Key for Name {
 
     ghost shelved = { λ n. shelf_of (held n.spelling) };
 
-    ghost sound = { λ a b e. (same_decides _ _).0 e };
+    ghost sound = { λ a b e. (compares_Decides same_points (Prim.search rules) _ _).0 e };
 
-    ghost complete = { λ a b e. (same_decides _ _).1 e };
+    ghost complete = { λ a b e. (compares_Decides same_points (Prim.search rules) _ _).1 e };
 
-    ghost below = { first_of (Prim.search rules, Prim.grind (arith, Self.row.coded.inj)) };
+    ghost below = { Prim.search rules };
 
-    ghost together = { first_of (Prim.search rules, Prim.grind (arith, Self.row.coded.inj)) };
+    ghost together = { Prim.search rules };
 
     fn same(&self, other: &Name) -> bool {
         equal_points(&self.identity, &other.identity)

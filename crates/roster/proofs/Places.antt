@@ -9,7 +9,7 @@ use Rattle.std.proofs.lemmas.Bool.{true≢false, cond-true, cond-false, cases_Bo
 use Rattle.std.specs.List.{AllByRecursion}
 use Rattle.std.specs.Cmp.{nat_cmp_total}
 use Rattle.std.specs.Cmp.Lexicographic.{lexical}
-use Rattle.keys.specs.Spelt.{same_decides}
+use Rattle.keys.proofs.Spelt.{same_decides}
 use Rattle.std.specs.Ordering.{is_eq, is_lt, is_gt, ordering_reverse}
 use Rattle.std.specs.List.Sorted.{IsStrictlySortedBy}
 

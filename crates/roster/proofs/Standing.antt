@@ -4,7 +4,7 @@ use Rattle.keys.specs.Name.{same_points}
 use Rattle.roster.specs.Entries.{Entry, or_else, line_at, first_line}
 use Rattle.roster.specs.Tree.{members_in, line_of, placed, Stands, Entered}
 use Rattle.roster.specs.declared.tree.Tree.{Tree}
-use Rattle.keys.specs.Spelt.{same_decides}
+use Rattle.keys.proofs.Spelt.{same_decides}
 use Rattle.roster.proofs.Places.{or_none, missed, line_placed, length_placed}
 use Rattle.std.proofs.lemmas.Bool.{cond-true, cond-false, cases_Bool}
 use Rattle.std.specs.declared.alloc.AllocError.{AllocError}

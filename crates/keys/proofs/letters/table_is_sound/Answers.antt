@@ -1,4 +1,4 @@
-use Rattle.keys.specs.Table.{table_rises, table_closed}
+use Rattle.keys.proofs.Table.{table_rises, table_closed}
 use Rattle.keys.proofs.letters.table_is_sound.Goals as goal
 
 pub returns : goal.returns

@@ -8,8 +8,8 @@ and_so : (a b : Bool) → a ≡ true → (a && b) ≡ b
 and_so true b t = refl
 and_so false b t = absurd (both_ways false refl t)
 
-pub returns-then-not-is-allowed : goal.returns-then-not-is-allowed
-returns-then-not-is-allowed c =
+pub returns-then-not-is_allowed : goal.returns-then-not-is_allowed
+returns-then-not-is_allowed c =
     let here = at_drop_more all_allowed c.args.points.now c.loop-point.point-index 0 (search rules) in
     let fails : allowed (get_or c.args.points.now c.loop-point.point-index 0) ≡ false = search rules in
     sym (sym c.loop-point.invariant ∙ here ∙ and_left _ _ fails)

@@ -1,4 +1,4 @@
-use Rattle.keys.specs.Spelt.{one_name}
+use Rattle.keys.proofs.Spelt.{one_name}
 use Rattle.keys.proofs.name.one_name_is_respelled.Goals as goal
 
 pub returns : goal.returns

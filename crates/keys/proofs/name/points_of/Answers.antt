@@ -6,8 +6,8 @@ use Rattle.std.specs.Str.Iter.{chars_rest}
 use Rattle.std.specs.Str.{chars}
 use Rattle.keys.proofs.name.points_of.Goals as goal
 
-pub returns-then-is-full : goal.returns-then-is-full
-returns-then-is-full c =
+pub returns-then-is_full : goal.returns-then-is_full
+returns-then-is_full c =
     let inv = c.loop-point.invariant in
     let full : c.loop-point.points.len ≡ 24 = search rules in
     too_long c.args.text.now (held c.loop-point.points) (chars_rest c.loop-point.point-iterator) (chars_rest c.next.new.self) c.in-Some.point inv.2 inv.3 c.in-Some.ensures.steps.0 (length_held c.loop-point.points ∙ full)

@@ -5,7 +5,7 @@ use Rattle.keys.proofs.name.total.Goals as goal
 pub loop-point-preserved : goal.loop-point-preserved
 loop-point-preserved c =
     let more = sum_by_more (λ x. x) c.args.points.now c.loop-point.point-index 0 (search rules) in
-    let point = c.type-inv.points c.loop-point.point-index in
+    let point = c.type_inv.points c.loop-point.point-index in
     (cc, omega arith)
 
 pub returns : goal.returns

@@ -6,13 +6,13 @@ use Rattle.letters.specs.Tokens.{past_blanks, tokens_of}
 use Rattle.std.proofs.lemmas.List.Sums.{prefix_len-le-length}
 use Rattle.std.specs.List.{prefix_len}
 
-pub split-at-requires : goal.split-at-requires
-split-at-requires c = search (rules, prefix_len-le-length)
+pub split_at-requires : goal.split_at-requires
+split_at-requires c = search (rules, prefix_len-le-length)
 
 pub returns : goal.returns
 returns c =
     let text = c.args.text.now in
-    let left : c.split-at.result.1.now ≡ past_blanks text = c.split-at.ensures.back ∙ ap (λ (n : ℕ). drop n text) c.blanks-len.ensures in
+    let left : c.split_at.result.1.now ≡ past_blanks text = c.split_at.ensures.back ∙ ap (λ (n : ℕ). drop n text) c.blanks_len.ensures in
     record {
       value = left;
       same = λ end. ap (tokens_of end) left ∙ same_tokens end text;

@@ -10,7 +10,7 @@ returns-in-Some c =
     let after = c.in-Some.after.now in
     let t = seen c.in-Some.token in
     let is = sym c.in-Some.ensures in
-    let place = c.saturating-sub-place.ensures in
+    let place = c.saturating_sub-place.ensures in
     let first : ℕ → List Placed = λ p. (t, p) ∷ tokens_of end after in
     let cut : ℕ → Option (Placed × List ℕ) = λ p. Some ((t, p), after) in
     record {

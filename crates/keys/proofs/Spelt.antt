@@ -5,7 +5,7 @@ use Rattle.keys.specs.Letters.{table, letter, found}
 use Rattle.keys.specs.Name.{parts, parts_of, identity_of, same_points, Respelled, OneName}
 use Rattle.keys.specs.Name.Respelled.{apart, itself, turned, chained}
 use Rattle.keys.specs.declared.letters.Letter.{Letter}
-use Rattle.keys.specs.Table.{table_rises, table_closed, found_at}
+use Rattle.keys.proofs.Table.{table_rises, table_closed, found_at}
 use Rattle.std.proofs.ByRecursion.{all-has, All-from_get_or, has_get_or, has_append_right}
 use Rattle.std.proofs.lemmas.List.{take_more}
 use Rattle.std.proofs.lemmas.Slice.Eq.{compares_Decides}
