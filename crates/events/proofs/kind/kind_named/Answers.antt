@@ -4,11 +4,11 @@ use Rattle.events.proofs.kind.kind_named.Goals as goal
 use Rattle.events.specs.Kind.{named_from}
 use Rattle.std.proofs.lemmas.Bool.{cond-true, cond-false}
 
-pub returns-then-is-word-of : goal.returns-then-is-word-of
-returns-then-is-word-of c =
+pub returns-then-is_word_of : goal.returns-then-is_word_of
+returns-then-is_word_of c =
     let turn = sym (named_more c.loop-kind.kind c.args.word.now c.loop-kind-test.true) ∙ c.loop-kind.invariant in
     record {
-      value = sym (cond-true _ _ _ (sym c.is-word-of.ensures ∙ c.if-is-word-of.true)) ∙ turn;
+      value = sym (cond-true _ _ _ (sym c.is_word_of.ensures ∙ c.if-is_word_of.true)) ∙ turn;
       law = named_law c.args.word.now;
       below = c.loop-kind-test.true;
     }
@@ -16,7 +16,7 @@ returns-then-is-word-of c =
 pub loop-kind-preserved : goal.loop-kind-preserved
 loop-kind-preserved c =
     let turn = sym (named_more c.loop-kind.kind c.args.word.now c.loop-kind-test.true) ∙ c.loop-kind.invariant in
-    sym (cond-false _ _ _ (sym c.is-word-of.ensures ∙ c.if-is-word-of.false)) ∙ turn
+    sym (cond-false _ _ _ (sym c.is_word_of.ensures ∙ c.if-is_word_of.false)) ∙ turn
 
 pub returns : goal.returns
 returns c =

@@ -6,6 +6,6 @@ use Rattle.events.proofs.record.reading_bits.Goals as goal
 
 pub returns : goal.returns
 returns c =
-    let fits : SFits w32 c.cast-signed.result = search rules in
-    to_z-of_z w32 c.cast-signed.result fits ∙ c.cast-signed.ensures ∙ cast_is c.word.result c.word.type-inv ∙
+    let fits : SFits w32 c.cast_signed.result = search rules in
+    to_z-of_z w32 c.cast_signed.result fits ∙ c.cast_signed.ensures ∙ cast_is c.word.result c.word.type_inv ∙
     ap signed_32 (c.word.ensures ∙ reading_is c.args.bytes.now (record_from c.args.bytes.now c.told-bytes c.fits-bytes) c.args.i c.requires)

@@ -6,4 +6,4 @@ use Rattle.events.proofs.record.word.Goals as goal
 pub returns : goal.returns
 returns c =
     let room : c.args.at + 4 ≤ length c.args.bytes.now = omega arith in
-    c.from-be-bytes.ensures ∙ omega arith ∙ sym (ap (λ (l : List ℕ). packed (eights l) l) (four_bytes c.args.bytes.now c.args.at room))
+    c.from_be_bytes.ensures ∙ omega arith ∙ sym (ap (λ (l : List ℕ). packed (eights l) l) (four_bytes c.args.bytes.now c.args.at room))
