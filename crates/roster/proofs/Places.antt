@@ -3,12 +3,10 @@ use Rattle.std.proofs.Common.{◌≡◌, ℕ, ◌+◌, true, false, ◌⊎◌, L
 use Rattle.keys.specs.Name.{same_points}
 use Rattle.roster.specs.Entries.{Entry, or_else, line_at}
 use Rattle.roster.specs.Tree.{line_of, by_points, by_identity, Ordered, placed}
-use Rattle.std.proofs.lemmas.Map.Invariant.{sorted-from-test, test-from-sorted}
 use Rattle.std.proofs.lemmas.Map.Lookups.{exact_bytes}
 use Rattle.std.proofs.lemmas.Bool.{true≢false, cond-true, cond-false, cases_Bool}
 use Rattle.std.specs.List.{AllByRecursion}
-use Rattle.std.specs.Cmp.{nat_cmp_total}
-use Rattle.std.specs.Cmp.Lexicographic.{lexical}
+use Rattle.std.specs.Cmp.Lexicographic.{nat_list_cmp_total}
 use Rattle.keys.proofs.Spelt.{same_decides}
 use Rattle.std.specs.Ordering.{is_eq, is_lt, is_gt, ordering_reverse}
 use Rattle.std.specs.List.Sorted.{IsStrictlySortedBy}
@@ -21,10 +19,10 @@ level Equal e = refl
 level Greater e = absurd (true≢false (ap is_gt e))
 
 itself : (i : List ℕ) → by_points i i ≡ Equal
-itself i = level (by_points i i) ((lexical nat_cmp_total).flip i i)
+itself i = level (by_points i i) (nat_list_cmp_total.antisymm i i)
 
 chained : (i j k : List ℕ) → by_points i j ≡ Less → by_points j k ≡ Less → by_points i k ≡ Less
-chained = (lexical nat_cmp_total).trans
+chained = nat_list_cmp_total.trans
 
 -- what the order tells apart is not the same
 apart : (i j : List ℕ) → is_eq (by_points i j) ≡ false → same_points i j ≡ false
@@ -42,7 +40,7 @@ late_apart i j k late less =
 either_way : (i j : List ℕ) (r : Ordering) → by_points i j ≡ r → same_points i j ≡ false → is_lt r ≡ false → by_points j i ≡ Less
 either_way i j Less is differ late = absurd (true≢false late)
 either_way i j Equal is differ late = absurd (true≢false (sym ((same_decides i j).1 (exact_bytes i j is)) ∙ differ))
-either_way i j Greater is differ late = (lexical nat_cmp_total).flip j i ∙ ap ordering_reverse is
+either_way i j Greater is differ late = nat_list_cmp_total.antisymm j i ∙ ap ordering_reverse is
 
 -- ---- the first of two answers
 
@@ -111,13 +109,13 @@ between (m ∷ ls) n rs h =
 
 module _ (ls : List Entry) (n : Entry) (rs : List Entry) (ordered : Ordered (ls ++ (n ∷ rs))) where
   sides : Between ls n rs
-  sides = between ls n rs (sorted-from-test by_identity (ls ++ (n ∷ rs)) ordered)
+  sides = between ls n rs ordered
 
   pub left_ordered : Ordered ls
-  left_ordered = test-from-sorted by_identity ls sides.left
+  left_ordered = sides.left
 
   pub right_ordered : Ordered rs
-  right_ordered = test-from-sorted by_identity rs sides.right
+  right_ordered = sides.right
 
   -- an identity before the member is on the left, if anywhere
   pub found_left : (i : List ℕ) → by_points i n.0 ≡ Less → line_of i ls ≡ line_of i (ls ++ (n ∷ rs))
@@ -216,4 +214,4 @@ sorted_placed e (m ∷ ms) h new =
     (cases_Bool (is_lt (by_identity e m)))
 
 pub ordered_placed : (e : Entry) (ms : List Entry) → Ordered ms → line_of e.0 ms ≡ None → Ordered (placed e ms)
-ordered_placed e ms ordered new = test-from-sorted by_identity (placed e ms) (sorted_placed e ms (sorted-from-test by_identity ms ordered) new)
+ordered_placed e ms ordered new = sorted_placed e ms ordered new

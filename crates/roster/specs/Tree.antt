@@ -1,5 +1,5 @@
 -- What a search tree holds, and which entries it stands for. Assumes nothing.
-use Rattle.std.specs.Prelude.{◌≡◌, ℕ, cond, T, List, [], ◌∷◌, ◌++◌, length, None, Ok, Err, vec_items, Option, Result}
+use Rattle.std.specs.Prelude.{◌≡◌, ℕ, cond, List, [], ◌∷◌, ◌++◌, length, None, Ok, Err, vec_items, Option, Result}
 use Rattle.std.specs.declared.cmp.Ordering.{Ordering}
 use Rattle.roster.specs.Entries.{Entry, or_else, line_at, first_line, different}
 use Rattle.roster.specs.declared.tree.Branch.{Branch}
@@ -8,7 +8,7 @@ use Rattle.roster.specs.declared.tree.Tree.TheVariants.{Empty, Fork'}
 use Rattle.std.specs.Cmp.Lexicographic.{slice_cmp}
 use Rattle.std.specs.Option.{unwrap_or}
 use Rattle.std.specs.Ordering.{is_lt, nat_cmp}
-use Rattle.std.specs.Map.Invariant.{is-strictly-sorted-by}
+use Rattle.std.specs.List.Sorted.{IsStrictlySortedBy}
 
 -- the members in a tree, from left to right
 abbrev pub members_in : Tree → List Entry
@@ -35,7 +35,7 @@ by_identity a b = by_points a.0 b.0
 
 -- each member is before those to its right
 abbrev pub Ordered : List Entry → Type 0
-Ordered ms = T (is-strictly-sorted-by by_identity ms)
+Ordered ms = IsStrictlySortedBy by_identity ms
 
 -- the members with one more, in front of those that it is before
 abbrev pub placed : Entry → List Entry → List Entry

@@ -1,7 +1,8 @@
 // The members so far, each with the first line that had its name.
 ghost use Rattle.std.specs.Prelude.{◌≡◌, List, [], length};
 ghost use Rattle.roster.specs.Entries.{Entry, name_identity, different};
-ghost use Rattle.roster.specs.Tree.{members_in, Ordered, Stands, Enters};
+ghost use Rattle.roster.specs.Tree.{members_in, by_identity, Ordered, Stands, Enters};
+ghost use Rattle.std.specs.List.Sorted.{IsStrictlySortedBy-prop};
 
 use crate::tree::{Branch, Tree};
 use keys::Name;
@@ -13,7 +14,7 @@ pub struct Members {
     heap: Global,
     tree: Tree,
     count: usize,
-    ghost ordered: { Ordered (members_in tree) },
+    ghost ordered: { Ordered (members_in tree) } by { IsStrictlySortedBy-prop by_identity (members_in tree) },
     ghost counted: { count ≡ length (members_in tree) },
 }
 

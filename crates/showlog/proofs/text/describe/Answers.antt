@@ -8,9 +8,9 @@ use Rattle.showlog.specs.Lines.{line, more, log_text, records_after}
 
 pub returns : goal.returns
 returns c =
-    let from : unread c.into-iter-item-iterator.result ≡ c.args.log.now = ap unread c.into-iter-item-iterator.ensures.into-iter-gives ∙ c.new-item-items.ensures in
+    let from : unread c.into_iter-item-iterator.result ≡ c.args.log.now = ap unread c.into_iter-item-iterator.ensures.into_iter_gives ∙ c.new-item-items.ensures in
     let read : map told c.loop-item.yielded ≡ log_of c.args.log.now =
-    whole_log.given c.into-iter-item-iterator.result c.loop-item.yielded (c.next.new.self, (c.loop-item.item-iterator, c.loop-item.yielded-by, c.in-None.ensures.steps)) ∙ ap log_of from in (
+    whole_log.given c.into_iter-item-iterator.result c.loop-item.yielded (c.next.new.self, (c.loop-item.item-iterator, c.loop-item.yielded_by, c.in-None.ensures.steps)) ∙ ap log_of from in (
       c.loop-item.invariant.0 ∙ ap (λ (items : List Told). string_bytes c.args.text.now ++ log_text c.args.before items) read,
       c.loop-item.invariant.1 ∙ ap (records_after c.args.before) read,
     )
@@ -19,7 +19,7 @@ pub loop-item-preserved : goal.loop-item-preserved
 loop-item-preserved c =
     let inv = c.loop-item.invariant in
     let t : Told = Err c.in-Err.refusal in
-    let number : c.saturating-add-number.result ≡ more c.loop-item.records = search rules in
+    let number : c.saturating_add-number.result ≡ more c.loop-item.records = search rules in
     let grown = c.in-ok-writeln-2.ensures.bytes ∙ ap (λ (k : ℕ). string_bytes c.loop-item.text ++ (line k t ++ (10 ∷ []))) number in (
       text_more _ _ _ _ c.loop-item.records c.loop-item.yielded c.in-Some.item t (ap told c.in-Err.is) inv.0 inv.1 grown,
       count_more _ _ c.loop-item.yielded c.in-Some.item t (ap told c.in-Err.is) inv.1,
@@ -29,8 +29,8 @@ pub loop-item-preserved-in-Ok : goal.loop-item-preserved-in-Ok
 loop-item-preserved-in-Ok c =
     let inv = c.loop-item.invariant in
     let t : Told = Ok (fields c.in-Ok.event) in
-    let number : c.saturating-add-number.result ≡ more c.loop-item.records = search rules in
-    let grown = c.in-ok-writeln.ensures.bytes ∙ ap (λ (k : ℕ). string_bytes c.loop-item.text ++ (line k t ++ (10 ∷ []))) number in (
+    let number : c.saturating_add-number.result ≡ more c.loop-item.records = search rules in
+    let grown = c.in_ok-writeln-in-Ok.ensures.bytes ∙ ap (λ (k : ℕ). string_bytes c.loop-item.text ++ (line k t ++ (10 ∷ []))) number in (
       text_more _ _ _ _ c.loop-item.records c.loop-item.yielded c.in-Some.item t (ap told c.in-Ok.is) inv.0 inv.1 grown,
       number ∙ count_more _ _ c.loop-item.yielded c.in-Some.item t (ap told c.in-Ok.is) inv.1,
     )
