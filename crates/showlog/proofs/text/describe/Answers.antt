@@ -20,7 +20,7 @@ loop-item-preserved c =
     let inv = c.loop-item.invariant in
     let t : Told = Err c.in-Err.refusal in
     let number : c.saturating_add-number.result ≡ more c.loop-item.records = search rules in
-    let grown = c.in-ok-writeln-2.ensures.bytes ∙ ap (λ (k : ℕ). string_bytes c.loop-item.text ++ (line k t ++ (10 ∷ []))) number in (
+    let grown = c.in_ok-writeln-in-Err.ensures.bytes ∙ ap (λ (k : ℕ). string_bytes c.loop-item.text ++ (line k t ++ (10 ∷ []))) number in (
       text_more _ _ _ _ c.loop-item.records c.loop-item.yielded c.in-Some.item t (ap told c.in-Err.is) inv.0 inv.1 grown,
       count_more _ _ c.loop-item.yielded c.in-Some.item t (ap told c.in-Err.is) inv.1,
     )
