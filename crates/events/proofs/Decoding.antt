@@ -13,7 +13,7 @@ use Rattle.std.proofs.lemmas.Bool.{cond-true, cond-false, cond_both, lt-ltb, le-
 use Rattle.keys.specs.Badge.{badge_answer}
 use Rattle.refusals.specs.declared.Refusal.{Refusal}
 use Rattle.refusals.specs.declared.Refusal.TheVariants.{Badge}
-use Rattle.std.specs.List.{AllByRecursion as All}
+use Rattle.std.specs.List.{AllByRecursion}
 
 signed_low : (n : ℕ) → n < 2 ^ 31 → signed_32 n ≡ pos n
 signed_low n h = cond-true _ _ _ (lt-ltb n (2 ^ 31) h)
@@ -37,7 +37,7 @@ same_width : (k : ℕ) {X : Type 0} (xs : List X) → map (λ _. k) xs ≡ repli
 same_width k [] = refl
 same_width k (x ∷ xs) = ap (λ (l : List ℕ). k ∷ l) (same_width k xs)
 
-fitting_bytes : (bytes : List ℕ) → All (λ b. b < 2 ^ 8) bytes → Fitting (eights bytes) bytes
+fitting_bytes : (bytes : List ℕ) → AllByRecursion (λ b. b < 2 ^ 8) bytes → Fitting (eights bytes) bytes
 fitting_bytes [] a = tt
 fitting_bytes (b ∷ bs) a = (a.0, fitting_bytes bs a.1)
 
@@ -65,11 +65,11 @@ back bytes r =
     ap (unpacked (replicate 24 8)) (packed_unpacked widths n ∙ mod-eq_of_lt (record_below bytes r)) ∙
     ap (λ (ws : List ℕ). unpacked ws n) (sym eight) ∙ unpacked_packed (eights bytes) bytes (fitting_bytes bytes r.1)
 
-fitting_readings : (rs : List ℤ) → All Reading rs → Fitting (map (λ _. 32) rs) (map bits_32 rs)
+fitting_readings : (rs : List ℤ) → AllByRecursion Reading rs → Fitting (map (λ _. 32) rs) (map bits_32 rs)
 fitting_readings [] a = tt
 fitting_readings (r ∷ rs) a = (bits_below r a.0, fitting_readings rs a.1)
 
-readings_back : (rs : List ℤ) → length rs ≡ 4 → All Reading rs →
+readings_back : (rs : List ℤ) → length rs ≡ 4 → AllByRecursion Reading rs →
     signed_32 (get_or (map bits_32 rs) 0 0) ∷ signed_32 (get_or (map bits_32 rs) 1 0) ∷ signed_32 (get_or (map bits_32 rs) 2 0) ∷ signed_32 (get_or (map bits_32 rs) 3 0) ∷ [] ≡ rs
 readings_back [] four a = absurd (omega (arith, four))
 readings_back (p ∷ []) four a = absurd (omega (arith, four))
@@ -101,7 +101,7 @@ regroup : (a b c d e : ℕ) → a * (b * c) + (d * c + e) ≡ (a * b + d) * c + 
 regroup a b c d e = sym (ap (λ (n : ℕ). n + e) (add-mul (a * b) d c ∙ ap (λ (n : ℕ). n + d * c) (mul_assoc a b c)) ∙ add_assoc (a * (b * c)) (d * c) e)
 
 -- the bytes in the middle of others are a field of the whole
-middle : (a w z : List ℕ) → All (λ b. b < 2 ^ 8) w → All (λ b. b < 2 ^ 8) z →
+middle : (a w z : List ℕ) → AllByRecursion (λ b. b < 2 ^ 8) w → AllByRecursion (λ b. b < 2 ^ 8) z →
     packed (eights (a ++ (w ++ z))) (a ++ (w ++ z)) / 2 ^ width (eights z) % 2 ^ width (eights w) ≡ packed (eights w) w
 middle a w z bw bz =
     let pa = packed (eights a) a in

@@ -4,7 +4,7 @@ use Rattle.std.specs.Prelude.{◌≡◌, ℕ, ◌-◌, ◌^◌, ◌<◌, cond, L
 use Rattle.events.specs.Bits.{packed, unpacked, number_of}
 use Rattle.events.specs.declared.event.Event.{Event}
 use Rattle.keys.specs.declared.badge.Badge.{Badge}
-use Rattle.std.specs.List.{AllByRecursion as All}
+use Rattle.std.specs.List.{AllByRecursion}
 
 -- what a record tells
 pub record Fields : Type 0 where
@@ -52,7 +52,7 @@ encoded f = unpacked (replicate 24 8) (packed widths (values_of f))
 
 -- 24 bytes
 abbrev pub Record : List ℕ → Type 0
-Record bytes = (length bytes ≡ 24) × All (λ b. b < 2 ^ 8) bytes
+Record bytes = (length bytes ≡ 24) × AllByRecursion (λ b. b < 2 ^ 8) bytes
 
 -- a reading of 32 bits
 abbrev pub Reading : ℤ → Type 0
@@ -65,7 +65,7 @@ pub record Recordable (f : Fields) : Type 0 where
   pub time : f.time < 2 ^ 32
   pub badge : f.badge < 2 ^ 28
   pub four : length f.readings ≡ 4
-  pub readings : All Reading f.readings
+  pub readings : AllByRecursion Reading f.readings
 
 -- every record has fields of which it is the encoding, and all fields that a record has room for come back
 abbrev pub Inverse : Type 0

@@ -10,7 +10,7 @@ use Rattle.std.proofs.ByRecursion.{all-has, All-from_get_or, has_get_or, has_app
 use Rattle.std.proofs.lemmas.List.{take_more}
 use Rattle.std.proofs.lemmas.Slice.Eq.{compares_Decides}
 use Rattle.std.proofs.lemmas.Bool.{cond-true, cond-false, eqb-true, cases_Bool}
-use Rattle.std.specs.List.{ContainsAt as Has}
+use Rattle.std.specs.List.{ContainsAt}
 
 pub identity_append : (xs ys : List ℕ) → identity_of (xs ++ ys) ≡ identity_of xs ++ identity_of ys
 identity_append [] ys = refl
@@ -35,7 +35,7 @@ record Taken (l : Letter) : Type 0 where
   base : parts l.base ≡ l.base ∷ []
   mark : parts l.mark ≡ l.mark ∷ []
 
-taken : (l : Letter) → Has table l → Taken l
+taken : (l : Letter) → ContainsAt table l → Taken l
 taken l has =
     all-has Taken table l
     (All-from_get_or Taken table (letter 0 0 0)
@@ -63,13 +63,13 @@ some_same : (m l : Letter) → ◌≡◌ {A = Option Letter} (Some m) (Some l) �
 some_same m l e = cc
 
 -- what is found is in the list, and is for the code point that was sought
-found_has : (ls : List Letter) (c : ℕ) (l : Letter) → found ls c ≡ Some l → Has ls l × (l.composed ≡ c)
+found_has : (ls : List Letter) (c : ℕ) (l : Letter) → found ls c ≡ Some l → ContainsAt ls l × (l.composed ≡ c)
 found_has [] c l e = absurd (none_some l e)
 found_has (m ∷ ls) c l e =
     ⊎_elim
     (λ (same : nat_eq m.composed c ≡ true).
     let is : m ≡ l = some_same m l (sym (cond-true _ _ _ same) ∙ e) in
-    (subst (Has (m ∷ ls)) is (has_get_or (m ∷ ls) 0 m (omega arith)), sym (ap (λ (x : Letter). x.composed) is) ∙ eqb-true m.composed c same))
+    (subst (ContainsAt (m ∷ ls)) is (has_get_or (m ∷ ls) 0 m (omega arith)), sym (ap (λ (x : Letter). x.composed) is) ∙ eqb-true m.composed c same))
     (λ (other : nat_eq m.composed c ≡ false).
     let rest = found_has ls c l (sym (cond-false _ _ _ other) ∙ e) in
     (has_append_right (m ∷ []) ls l rest.0, rest.1))

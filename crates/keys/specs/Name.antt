@@ -4,7 +4,7 @@ use Rattle.keys.specs.Letters.{table, found}
 use Rattle.keys.specs.declared.letters.Letter.{Letter}
 use Rattle.refusals.specs.declared.Refusal.{Refusal}
 use Rattle.refusals.specs.declared.Refusal.TheVariants.{NameLength, CodePoint}
-use Rattle.std.specs.List.{ContainsAt as Has}
+use Rattle.std.specs.List.{ContainsAt}
 use Rattle.std.specs.Str.{chars}
 
 -- a name may have every code point but the surrogates
@@ -46,7 +46,7 @@ same_points (x ∷ xs) (y ∷ ys) = x == y && same_points xs ys
 -- One spelling is turned into the other by writing letters of the table as base and mark, or back, anywhere and as often
 -- as wanted.
 pub data Respelled : List ℕ → List ℕ → Type 0 where
-  apart : (front back : List ℕ) (l : Letter) → Has table l → Respelled (front ++ (l.composed ∷ back)) (front ++ (l.base ∷ (l.mark ∷ back)))
+  apart : (front back : List ℕ) (l : Letter) → ContainsAt table l → Respelled (front ++ (l.composed ∷ back)) (front ++ (l.base ∷ (l.mark ∷ back)))
   itself : (xs : List ℕ) → Respelled xs xs
   turned : (xs ys : List ℕ) → Respelled xs ys → Respelled ys xs
   chained : (xs ys zs : List ℕ) → Respelled xs ys → Respelled ys zs → Respelled xs zs

@@ -10,7 +10,7 @@ use Rattle.letters.specs.declared.fault.LetterFault.TheVariants.{StrayByte, Long
 use Rattle.std.proofs.ByRecursion.{All-weaker, has_get_or, has_append_right}
 use Rattle.std.proofs.lemmas.Bool.{cond-true, cond-false, lt-ltb, le-ltb, cases_lt}
 use Rattle.std.specs.Result.{result_and}
-use Rattle.std.specs.List.{ContainsAt as Has, AllByRecursion as All}
+use Rattle.std.specs.List.{ContainsAt, AllByRecursion}
 
 -- a fault of a token stands at the token
 small_place : (p : ℕ) (o : Option ℕ) (g : LetterFault) → small p o ≡ Err g → place_of g ≡ p
@@ -26,22 +26,22 @@ place_is (stray b) p g e = let f : StrayByte p ≡ g = cc in sym (ap place_of f)
 -- each token stands before those that follow it
 abbrev Ascends : List Placed → Type 0
 Ascends [] = Unit {0}
-Ascends (t ∷ ts) = All (λ u. t.1 < u.1) ts × Ascends ts
+Ascends (t ∷ ts) = AllByRecursion (λ u. t.1 < u.1) ts × Ascends ts
 
 -- the tokens of what is left stand where it begins, or later
 from_cut : (end whole left : ℕ) (c : Cut) → Shorter left c → left ≤ whole → (more : List ℕ → List Placed) →
-    ((rest : List ℕ) → All (λ u. end - length rest ≤ u.1) (more rest)) → All (λ u. end - whole ≤ u.1) (after_cut end left c more)
+    ((rest : List ℕ) → AllByRecursion (λ u. end - length rest ≤ u.1) (more rest)) → AllByRecursion (λ u. end - whole ≤ u.1) (after_cut end left c more)
 from_cut end whole left None h l more begins = tt
 from_cut end whole left (Some c) h l more begins =
     (omega arith, All-weaker (λ (u : Placed). end - length c.1 ≤ u.1) (λ (u : Placed). end - whole ≤ u.1) (λ u k. omega arith) (more c.1) (begins c.1))
 
-from_place : (n end : ℕ) (bs : List ℕ) → All (λ u. end - length bs ≤ u.1) (tokens_by n end bs)
+from_place : (n end : ℕ) (bs : List ℕ) → AllByRecursion (λ u. end - length bs ≤ u.1) (tokens_by n end bs)
 from_place zero end bs = tt
 from_place (suc n) end bs =
     from_cut end (length bs) (length (past_blanks bs)) (token_at (past_blanks bs)) (shorter_cut (past_blanks bs)) (blanks_shorter bs) (tokens_by n end) (from_place n end)
 
 ascends_cut : (end left : ℕ) (c : Cut) → Shorter left c → left ≤ end → (more : List ℕ → List Placed) →
-    ((rest : List ℕ) → All (λ u. end - length rest ≤ u.1) (more rest)) → ((rest : List ℕ) → length rest < left → Ascends (more rest)) → Ascends (after_cut end left c more)
+    ((rest : List ℕ) → AllByRecursion (λ u. end - length rest ≤ u.1) (more rest)) → ((rest : List ℕ) → length rest < left → Ascends (more rest)) → Ascends (after_cut end left c more)
 ascends_cut end left None h l more begins rises = tt
 ascends_cut end left (Some c) h l more begins rises =
     (All-weaker (λ (u : Placed). end - length c.1 ≤ u.1) (λ (u : Placed). end - left < u.1) (λ u k. omega arith) (more c.1) (begins c.1), rises c.1 h)
@@ -58,20 +58,20 @@ never f e = let z : ◌≡◌ {A = ℕ} 0 1 = cc in omega arith
 
 -- by what the first token is judged to be
 clean_by : (j : Judged) (u : Placed) (ts : List Placed) → judged u ≡ j → result_and j (first_fault ts) ≡ Ok tt →
-    (first_fault ts ≡ Ok tt → All (λ t. judged t ≡ Ok tt) ts) → All (λ t. judged t ≡ Ok tt) (u ∷ ts)
+    (first_fault ts ≡ Ok tt → AllByRecursion (λ t. judged t ≡ Ok tt) ts) → AllByRecursion (λ t. judged t ≡ Ok tt) (u ∷ ts)
 clean_by (Ok x) u ts is e rest = (is, rest e)
 clean_by (Err f) u ts is e rest = absurd (never f (sym e))
 
-clean : (ts : List Placed) → first_fault ts ≡ Ok tt → All (λ t. judged t ≡ Ok tt) ts
+clean : (ts : List Placed) → first_fault ts ≡ Ok tt → AllByRecursion (λ t. judged t ≡ Ok tt) ts
 clean [] e = tt
 clean (u ∷ ts) e = clean_by (judged u) u ts refl e (clean ts)
 
-cleared : (ts : List Placed) → All (λ t. judged t ≡ Ok tt) ts → first_fault ts ≡ Ok tt
+cleared : (ts : List Placed) → AllByRecursion (λ t. judged t ≡ Ok tt) ts → first_fault ts ≡ Ok tt
 cleared [] a = refl
 cleared (u ∷ ts) a = ap (λ (j : Judged). result_and j (first_fault ts)) a.0 ∙ cleared ts a.1
 
 abbrev SomeFault : List Placed → LetterFault → Type 0
-SomeFault ts f = (t : Placed) × Has ts t × (judged t ≡ Err f)
+SomeFault ts f = (t : Placed) × ContainsAt ts t × (judged t ≡ Err f)
 
 some_by : (j : Judged) (u : Placed) (ts : List Placed) (f : LetterFault) → judged u ≡ j → result_and j (first_fault ts) ≡ Err f →
     (first_fault ts ≡ Err f → SomeFault ts f) → SomeFault (u ∷ ts) f
@@ -88,8 +88,8 @@ Later f t = (g : LetterFault) → judged t ≡ Err g → NoLater f g
 same_fault : (f g : LetterFault) → ◌≡◌ {A = Judged} (Err f) (Err g) → NoLater f g
 same_fault f g e = let same : f ≡ g = cc in inr (ap place_of same, omega (arith, ap number_of same))
 
-least_by : (j : Judged) (u : Placed) (ts : List Placed) (f : LetterFault) → judged u ≡ j → All (λ t. u.1 < t.1) ts → result_and j (first_fault ts) ≡ Err f →
-    (first_fault ts ≡ Err f → All (Later f) ts) → All (Later f) (u ∷ ts)
+least_by : (j : Judged) (u : Placed) (ts : List Placed) (f : LetterFault) → judged u ≡ j → AllByRecursion (λ t. u.1 < t.1) ts → result_and j (first_fault ts) ≡ Err f →
+    (first_fault ts ≡ Err f → AllByRecursion (Later f) ts) → AllByRecursion (Later f) (u ∷ ts)
 least_by (Ok x) u ts f is after e rest = ((λ g no. absurd (never g (sym is ∙ no))), rest e)
 least_by (Err h) u ts f is after e rest =
     let here : place_of f ≡ u.1 = place_is u.0 u.1 f (is ∙ e) in (
@@ -97,7 +97,7 @@ least_by (Err h) u ts f is after e rest =
       All-weaker (λ (t : Placed). u.1 < t.1) (Later f) (λ t k g same. let there = place_is t.0 t.1 g same in inl (omega arith)) ts after,
     )
 
-least : (ts : List Placed) → Ascends ts → (f : LetterFault) → first_fault ts ≡ Err f → All (Later f) ts
+least : (ts : List Placed) → Ascends ts → (f : LetterFault) → first_fault ts ≡ Err f → AllByRecursion (Later f) ts
 least [] a f e = tt
 least (u ∷ ts) a f e = least_by (judged u) u ts f refl a.0 e (least ts a.1 f)
 

@@ -6,7 +6,7 @@ use Rattle.letters.specs.Tokens.Tok.{word, number, mark, stray}
 use Rattle.letters.specs.declared.fault.LetterFault.{LetterFault}
 use Rattle.letters.specs.declared.fault.LetterFault.TheVariants.{StrayByte, LongNumber, LongText}
 use Rattle.std.specs.Result.{result_and}
-use Rattle.std.specs.List.{ContainsAt as Has, AllByRecursion as All}
+use Rattle.std.specs.List.{ContainsAt, AllByRecursion}
 
 abbrev pub number_of : LetterFault → ℕ
 number_of (StrayByte p) = 1
@@ -54,8 +54,8 @@ NoLater f g = (place_of f < place_of g) ⊎ ((place_of f ≡ place_of g) × (num
 -- has one; and a fault that is answered is a token's, and no later than that of any token.
 pub record LettersLaw (text : List ℕ) : Type 0 where
   pub long : 4096 < length text → letters_answer text ≡ Err LongText
-  pub clean : letters_answer text ≡ Ok tt → (length text ≤ 4096) × All (λ t. judged t ≡ Ok tt) (tokens_of (length text) text)
-  pub cleared : length text ≤ 4096 → All (λ t. judged t ≡ Ok tt) (tokens_of (length text) text) → letters_answer text ≡ Ok tt
-  pub some : (f : LetterFault) → length text ≤ 4096 → letters_answer text ≡ Err f → (t : Placed) × Has (tokens_of (length text) text) t × (judged t ≡ Err f)
+  pub clean : letters_answer text ≡ Ok tt → (length text ≤ 4096) × AllByRecursion (λ t. judged t ≡ Ok tt) (tokens_of (length text) text)
+  pub cleared : length text ≤ 4096 → AllByRecursion (λ t. judged t ≡ Ok tt) (tokens_of (length text) text) → letters_answer text ≡ Ok tt
+  pub some : (f : LetterFault) → length text ≤ 4096 → letters_answer text ≡ Err f → (t : Placed) × ContainsAt (tokens_of (length text) text) t × (judged t ≡ Err f)
   pub least : (f : LetterFault) → length text ≤ 4096 → letters_answer text ≡ Err f →
-      All (λ t. (g : LetterFault) → judged t ≡ Err g → NoLater f g) (tokens_of (length text) text)
+      AllByRecursion (λ t. (g : LetterFault) → judged t ≡ Err g → NoLater f g) (tokens_of (length text) text)

@@ -24,7 +24,7 @@ use Rattle.sense.specs.Meaning.{Reading, reading_of}
 use Rattle.sense.specs.Sense.{Limits, sense_faults}
 use Rattle.sense.specs.declared.draft.Draft.{Draft}
 use Rattle.sense.specs.declared.fault.SenseFault.{SenseFault}
-use Rattle.std.specs.List.{ContainsAt as Has, AllByRecursion as All}
+use Rattle.std.specs.List.{ContainsAt, AllByRecursion}
 
 -- the grammar's answer for a text
 abbrev parsed : List ℕ → Result Syntax GrammarFault
@@ -126,7 +126,7 @@ module _ (text : List ℕ) where
   of_grammar a (through q letters is none) f e = let z : ◌≡◌ {A = ℕ} 0 1 = cc in absurd (omega arith)
 
   of_sense : (a : Result Reading Fault) → Way text a → (f : SenseFault) → a ≡ Err (Sense f) →
-      (q : Syntax) × ReadsQuery 8 (text_tokens text) q × Has (sense_faults q) f × All (NoLater f) (sense_faults q)
+      (q : Syntax) × ReadsQuery 8 (text_tokens text) q × ContainsAt (sense_faults q) f × AllByRecursion (NoLater f) (sense_faults q)
   of_sense a (by_letters g is) f e = let z : ◌≡◌ {A = ℕ} 0 1 = cc in absurd (omega arith)
   of_sense a (by_grammar g is) f e = let z : ◌≡◌ {A = ℕ} 0 1 = cc in absurd (omega arith)
   of_sense a (by_sense q g is first) f e =

@@ -15,7 +15,7 @@ use Rattle.letters.specs.declared.word.Class.{Class}
 use Rattle.letters.specs.declared.word.Class.TheVariants.{Event, Seq, Where, Within, And, Or, Any, Key, Reading, Variable, Kind}
 use Rattle.sense.specs.Law.{Lettered}
 use Rattle.std.proofs.lemmas.Bool.{cond_both, and_parts, leb-true}
-use Rattle.std.specs.List.{AllByRecursion as All}
+use Rattle.std.specs.List.{AllByRecursion}
 
 abbrev Small : Class → Type 0
 Small Event = Unit {0}
@@ -69,7 +69,7 @@ part_small (positive ts v ws letter ks is) = variable_small v.0 letter is
 part_small (negative n o v c ts ws letter e f ks is g) = variable_small v.0 letter is
 
 abbrev ByteParts : List Part → Type 0
-ByteParts ps = All (λ p. p.variable.letter < 256) ps
+ByteParts ps = AllByRecursion (λ p. p.variable.letter < 256) ps
 
 all_and_one : (ps : List Part) (p : Part) → ByteParts ps → p.variable.letter < 256 → ByteParts (and_one ps p)
 all_and_one [] p a h = (h, tt)

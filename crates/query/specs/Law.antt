@@ -12,13 +12,13 @@ use Rattle.sense.specs.Faults.{NoLater}
 use Rattle.sense.specs.Meaning.{Reading, reading_of}
 use Rattle.sense.specs.Sense.{Limits, sense_faults}
 use Rattle.sense.specs.declared.fault.SenseFault.{SenseFault}
-use Rattle.std.specs.List.{ContainsAt as Has, AllByRecursion as All}
+use Rattle.std.specs.List.{ContainsAt, AllByRecursion}
 
 -- A text says r: it is not too long, none of its tokens is a stray byte or a long number, and they read, with conditions nested at most
 -- eight deep, as something that keeps the limits and means r.
 pub record Says (text : List ℕ) (r : Reading) : Type 0 where
   pub short : length text ≤ 4096
-  pub lettered : All (λ t. judged t ≡ Ok tt) (text_tokens text)
+  pub lettered : AllByRecursion (λ t. judged t ≡ Ok tt) (text_tokens text)
   pub syntax : Syntax
   pub reads : ReadsQuery 8 (text_tokens text) syntax
   pub limits : Limits syntax
@@ -39,4 +39,4 @@ pub record LanguageLaw (text : List ℕ) : Type 0 where
   pub deep : (p : ℕ) → answer_of text ≡ Err (Grammar (TooDeep p)) → GoesDeep 8 (text_tokens text) p
   -- a fault of sense is one of all those of what the tokens read as, and no later than any
   pub sense : (f : SenseFault) → answer_of text ≡ Err (Sense f) →
-      (q : Syntax) × ReadsQuery 8 (text_tokens text) q × Has (sense_faults q) f × All (NoLater f) (sense_faults q)
+      (q : Syntax) × ReadsQuery 8 (text_tokens text) q × ContainsAt (sense_faults q) f × AllByRecursion (NoLater f) (sense_faults q)

@@ -4,7 +4,7 @@ use Rattle.sense.specs.Faults.{number_of, place_of, comes_before, noted, least_f
 use Rattle.sense.specs.declared.fault.SenseFault.{SenseFault}
 use Rattle.std.proofs.ByRecursion.{has_get_or, has_append_right}
 use Rattle.std.proofs.lemmas.Bool.{ltb-true, ltb-false, eqb-true, eqb-false, and_parts, and_cases, or_cases, or_parts, cases_lt}
-use Rattle.std.specs.List.{ContainsAt as Has, AllByRecursion as All}
+use Rattle.std.specs.List.{ContainsAt, AllByRecursion}
 
 pub least_append : (s : Option SenseFault) (fs gs : List SenseFault) → least_from s (fs ++ gs) ≡ least_from (least_from s fs) gs
 least_append s [] gs = refl
@@ -44,7 +44,7 @@ first_of_two : (b : Bool) (g h f : SenseFault) → comes_before h g ≡ b → No
 first_of_two true g h f e l = (later_trans f h g l (before_later h g e), l)
 first_of_two false g h f e l = (l, later_trans f g h l (not_before_later h g e))
 
-first_from : (g : SenseFault) (fs : List SenseFault) (f : SenseFault) → least_from (Some g) fs ≡ Some f → All (NoLater f) (g ∷ fs)
+first_from : (g : SenseFault) (fs : List SenseFault) (f : SenseFault) → least_from (Some g) fs ≡ Some f → AllByRecursion (NoLater f) (g ∷ fs)
 first_from g [] f e = let same : g ≡ f = cc in (inr (sym (ap place_of same), omega (arith, ap number_of same)), tt)
 first_from g (h ∷ fs) f e =
     let rest = first_from (cond (comes_before h g) h g) fs f e in
@@ -52,27 +52,27 @@ first_from g (h ∷ fs) f e =
     (two.0, (two.1, rest.1))
 
 -- the first is no later than any
-pub least_first : (fs : List SenseFault) (f : SenseFault) → least fs ≡ Some f → All (NoLater f) fs
+pub least_first : (fs : List SenseFault) (f : SenseFault) → least fs ≡ Some f → AllByRecursion (NoLater f) fs
 least_first [] f e = tt
 least_first (g ∷ fs) f e = first_from g fs f e
 
-has_head : (f : SenseFault) (fs : List SenseFault) → Has (f ∷ fs) f
+has_head : (f : SenseFault) (fs : List SenseFault) → ContainsAt (f ∷ fs) f
 has_head f fs = has_get_or (f ∷ fs) 0 f (omega arith)
 
-has_tail : (g : SenseFault) (fs : List SenseFault) (f : SenseFault) → Has fs f → Has (g ∷ fs) f
+has_tail : (g : SenseFault) (fs : List SenseFault) (f : SenseFault) → ContainsAt fs f → ContainsAt (g ∷ fs) f
 has_tail g fs f h = has_append_right (g ∷ []) fs f h
 
-one_of_two : (b : Bool) (g h f : SenseFault) (fs : List SenseFault) → (cond b h g ≡ f) ⊎ Has fs f → (g ≡ f) ⊎ Has (h ∷ fs) f
+one_of_two : (b : Bool) (g h f : SenseFault) (fs : List SenseFault) → (cond b h g ≡ f) ⊎ ContainsAt fs f → (g ≡ f) ⊎ ContainsAt (h ∷ fs) f
 one_of_two true g h f fs (inl e) = inr (rw e (has_head f fs))
 one_of_two true g h f fs (inr k) = inr (has_tail h fs f k)
 one_of_two false g h f fs (inl e) = inl e
 one_of_two false g h f fs (inr k) = inr (has_tail h fs f k)
 
-some_from : (g : SenseFault) (fs : List SenseFault) (f : SenseFault) → least_from (Some g) fs ≡ Some f → (g ≡ f) ⊎ Has fs f
+some_from : (g : SenseFault) (fs : List SenseFault) (f : SenseFault) → least_from (Some g) fs ≡ Some f → (g ≡ f) ⊎ ContainsAt fs f
 some_from g [] f e = inl cc
 some_from g (h ∷ fs) f e = one_of_two (comes_before h g) g h f fs (some_from (cond (comes_before h g) h g) fs f e)
 
 -- the first is one of them
-pub least_some : (fs : List SenseFault) (f : SenseFault) → least fs ≡ Some f → Has fs f
+pub least_some : (fs : List SenseFault) (f : SenseFault) → least fs ≡ Some f → ContainsAt fs f
 least_some [] f e = let z : ◌≡◌ {A = ℕ} 0 1 = cc in absurd (omega arith)
 least_some (g ∷ fs) f e = ⊎_elim (λ (s : g ≡ f). rw s (has_head f fs)) (has_tail g fs f) (some_from g fs f e)

@@ -19,7 +19,7 @@ use Rattle.sense.specs.declared.parts.Binding.{Binding}
 use Rattle.sense.specs.declared.parts.Parts.{Parts}
 use Rattle.std.proofs.lemmas.List.{get_or-set_same, get_or-set_other, get_or-replicate, get_or_past, map_push, length_push, length-map}
 use Rattle.std.proofs.lemmas.Bool.{cond-true, cond-false, cases_lt, cases_eq, eq-eqb, ne_eqb}
-use Rattle.std.specs.List.{AllByRecursion as All}
+use Rattle.std.specs.List.{AllByRecursion}
 
 -- ---- one part
 
@@ -165,7 +165,7 @@ pub record PartsRead (d e : Draft) (before ps : List Part) : Type 0 where
   pub clauses : e.clauses ≡ d.clauses
   pub fault : e.fault ≡ least_from d.fault (parts_faults before ps)
 
-pub parts_read : (d : Draft) (before ps : List Part) → Stands d.parts before → All (λ p. p.variable.letter < 256) ps → PartsRead d (parts_drafted d ps) before ps
+pub parts_read : (d : Draft) (before ps : List Part) → Stands d.parts before → AllByRecursion (λ p. p.variable.letter < 256) ps → PartsRead d (parts_drafted d ps) before ps
 parts_read d before [] s a = record { stands = subst (Stands d.parts) (sym (append-nil before)) s; clauses = refl; fault = refl }
 parts_read d before (p ∷ ps) s a =
     let e = faulted (with_parts d (kept_parts d.parts p)) (part_faults before p) in

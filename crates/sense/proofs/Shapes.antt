@@ -7,11 +7,11 @@ use Rattle.sense.proofs.Owners.{or_else, owns, owner_push, positives_push, ends_
 use Rattle.sense.specs.Sense.{owner, positives, Distinct, Followed, ends_negative, misplaced, fault_where, unknown_kinds, part_faults, parts_faults, last_faults}
 use Rattle.sense.specs.declared.fault.SenseFault.TheVariants.{UnknownKind, Doubled, Shape}
 use Rattle.std.proofs.lemmas.Bool.{both_ways, eqb-false, eq-eqb, ne_eqb, cond-true, cond-false}
-use Rattle.std.specs.List.{AllByRecursion as All}
+use Rattle.std.specs.List.{AllByRecursion}
 
 -- each kind word names a kind
 abbrev pub Known : List Word → Type 0
-Known ws = All (λ w. is_some (kind_named w.0) ≡ true) ws
+Known ws = AllByRecursion (λ w. is_some (kind_named w.0) ≡ true) ws
 
 -- a part behind others has no fault
 record Fits (before : List Part) (p : Part) : Type 0 where
@@ -49,7 +49,7 @@ all_clean before (p ∷ ps) a = nils_from (part_faults before p) _ (fits_clean b
 
 -- ---- where there is no fault
 
-all_known : (before ps : List Part) → AllFit before ps → All (λ p. Known p.kinds) ps
+all_known : (before ps : List Part) → AllFit before ps → AllByRecursion (λ p. Known p.kinds) ps
 all_known before [] a = tt
 all_known before (p ∷ ps) a = (a.0.known, all_known (before ++ (p ∷ [])) ps a.1)
 
@@ -73,7 +73,7 @@ owner_own before p =
 abbrev letters : List Part → List ℕ
 letters ps = map (λ p. p.variable.letter) ps
 
-others : (before ps : List Part) (v : ℕ) → AllFit before ps → is_some (owner before v) ≡ true → All (λ u. u ≡ v → ⊥) (letters ps)
+others : (before ps : List Part) (v : ℕ) → AllFit before ps → is_some (owner before v) ≡ true → AllByRecursion (λ u. u ≡ v → ⊥) (letters ps)
 others before [] v a h = tt
 others before (p ∷ ps) v a h = (
   (λ same. both_ways _ a.0.free (ap (λ (u : ℕ). is_some (owner before u)) same ∙ h)),
@@ -117,7 +117,7 @@ some_positive (p ∷ r ∷ ps) f h = one_by p.negative (positives (r ∷ ps)) (s
 
 -- what holds of parts without a fault
 pub record Shaped (ps : List Part) : Type 0 where
-  pub known : All (λ p. Known p.kinds) ps
+  pub known : AllByRecursion (λ p. Known p.kinds) ps
   pub once : Distinct (letters ps)
   pub few : positives ps ≤ 6
   pub followed : Followed ps
@@ -155,15 +155,15 @@ none_else : {X : Type 0} (o : Option X) (b : Bool) (x : X) → is_some o ≡ fal
 none_else None b x e f = ap is_some (cond-false b (Some x) None f)
 none_else (Some y) b x e f = absurd (both_ways _ e refl)
 
-free_more : (before : List Part) (p : Part) (vs : List ℕ) → All (λ v. is_some (owner before v) ≡ false) vs → All (λ u. u ≡ p.variable.letter → ⊥) vs →
-    All (λ v. is_some (owner (before ++ (p ∷ [])) v) ≡ false) vs
+free_more : (before : List Part) (p : Part) (vs : List ℕ) → AllByRecursion (λ v. is_some (owner before v) ≡ false) vs → AllByRecursion (λ u. u ≡ p.variable.letter → ⊥) vs →
+    AllByRecursion (λ v. is_some (owner (before ++ (p ∷ [])) v) ≡ false) vs
 free_more before p [] a b = tt
 free_more before p (v ∷ vs) a b = (
   ap is_some (owner_push before p v) ∙ none_else (owner before v) (eqb p.variable.letter v) (length before, p.negative) a.0 (ne_eqb p.variable.letter v (λ e. b.0 (sym e))),
   free_more before p vs a.1 b.1,
 )
 
-fit_from : (before ps : List Part) → All (λ p. Known p.kinds) ps → All (λ v. is_some (owner before v) ≡ false) (letters ps) → Distinct (letters ps) → positives before + positives ps ≤ 6 →
+fit_from : (before ps : List Part) → AllByRecursion (λ p. Known p.kinds) ps → AllByRecursion (λ v. is_some (owner before v) ≡ false) (letters ps) → Distinct (letters ps) → positives before + positives ps ≤ 6 →
     Leads (ends_negative before) ps → Followed ps → AllFit before ps
 fit_from before [] known free once few next f = tt
 fit_from before (p ∷ ps) known free once few next f = (
@@ -172,7 +172,7 @@ fit_from before (p ∷ ps) known free once few next f = (
       (few_rest p.negative (positives before) (positives ps) (positives (before ++ (p ∷ []))) (positives_push before p) few) (rw ends_push (leads p ps f)) (followed_rest p ps f),
 )
 
-none_owned : (vs : List ℕ) → All (λ v. is_some (owner [] v) ≡ false) vs
+none_owned : (vs : List ℕ) → AllByRecursion (λ v. is_some (owner [] v) ≡ false) vs
 none_owned [] = tt
 none_owned (v ∷ vs) = (refl, none_owned vs)
 

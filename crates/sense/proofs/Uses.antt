@@ -9,15 +9,15 @@ use Rattle.sense.specs.Sense.{owner, test_names, cond_names, clause_names, tests
 use Rattle.sense.specs.declared.fault.SenseFault.TheVariants.{Unbound, ManyTests, TwoNegatives}
 use Rattle.std.proofs.ByRecursion.{All-append, all-has, all_has_itself, All-weaker, has_get_or, has_append_right}
 use Rattle.std.proofs.lemmas.Bool.{eqb-true, eqb-false, eq-eqb, ne_eqb, not-false, not_from_true, or_parts, or_from}
-use Rattle.std.specs.List.{ContainsAt as Has, AllByRecursion as All}
+use Rattle.std.specs.List.{ContainsAt, AllByRecursion}
 
 -- variables of the sequence
 abbrev pub Bound : List Part → List Name → Type 0
-Bound ps ns = All (λ n. is_some (owner ps n.letter) ≡ true) ns
+Bound ps ns = AllByRecursion (λ n. is_some (owner ps n.letter) ≡ true) ns
 
 -- at most one variable
 abbrev pub Single : List ℕ → Type 0
-Single vs = (u v : ℕ) → Has vs u → Has vs v → u ≡ v
+Single vs = (u v : ℕ) → ContainsAt vs u → ContainsAt vs v → u ≡ v
 
 bound : (ps : List Part) (ns : List Name) → unbound ps ns ≡ [] → Bound ps ns
 bound ps ns e = all_pass (λ n. is_some (owner ps n.letter)) (λ n. Unbound n.place) (unbound ps) (λ n ns. refl) ns e
@@ -25,7 +25,7 @@ bound ps ns e = all_pass (λ n. is_some (owner ps n.letter)) (λ n. Unbound n.pl
 bound_clean : (ps : List Part) (ns : List Name) → Bound ps ns → unbound ps ns ≡ []
 bound_clean ps ns a = none_fails (λ n. is_some (owner ps n.letter)) (λ n. Unbound n.place) (unbound ps) (λ n ns. refl) refl ns a
 
-all_parts : {X : Type 0} (P : X → Type 0) (xs ys : List X) → All P (xs ++ ys) → All P xs × All P ys
+all_parts : {X : Type 0} (P : X → Type 0) (xs ys : List X) → AllByRecursion P (xs ++ ys) → AllByRecursion P xs × AllByRecursion P ys
 all_parts P [] ys a = (tt, a)
 all_parts P (x ∷ xs) ys a = let r = all_parts P xs ys a.1 in ((a.0, r.0), r.1)
 
@@ -61,11 +61,11 @@ cond_clean ps n (either a b) all h =
 
 -- ---- negative variables
 
-same_all : (v : ℕ) (us : List ℕ) → other_than v us ≡ false → All (λ u. v ≡ u) us
+same_all : (v : ℕ) (us : List ℕ) → other_than v us ≡ false → AllByRecursion (λ u. v ≡ u) us
 same_all v [] e = tt
 same_all v (u ∷ us) e = let p = or_parts (not (eqb v u)) (other_than v us) e in (eqb-true v u (not-false (eqb v u) p.0), same_all v us p.1)
 
-all_same : (v : ℕ) (us : List ℕ) → All (λ u. v ≡ u) us → other_than v us ≡ false
+all_same : (v : ℕ) (us : List ℕ) → AllByRecursion (λ u. v ≡ u) us → other_than v us ≡ false
 all_same v [] a = refl
 all_same v (u ∷ us) a = or_from (not (eqb v u)) (other_than v us) (not_from_true (eqb v u) (eq-eqb v u a.0)) (all_same v us a.1)
 
@@ -75,21 +75,21 @@ none_single u v h k = absurd (omega (arith, h.1))
 single : (vs : List ℕ) → differ vs ≡ false → Single vs
 single [] e = none_single
 single (w ∷ vs) e = λ u v h k.
-    let a : All (λ x. w ≡ x) (w ∷ vs) = (refl, same_all w vs e) in
+    let a : AllByRecursion (λ x. w ≡ x) (w ∷ vs) = (refl, same_all w vs e) in
     sym (all-has (λ x. w ≡ x) (w ∷ vs) u a h) ∙ all-has (λ x. w ≡ x) (w ∷ vs) v a k
 
 single_clean : (vs : List ℕ) → Single vs → differ vs ≡ false
 single_clean [] s = refl
 single_clean (w ∷ vs) s =
-    all_same w vs (All-weaker (Has vs) (λ u. w ≡ u) (λ u h. s w u (has_get_or (w ∷ vs) 0 w (omega arith)) (has_append_right (w ∷ []) vs u h)) vs (all_has_itself vs))
+    all_same w vs (All-weaker (ContainsAt vs) (λ u. w ≡ u) (λ u h. s w u (has_get_or (w ∷ vs) 0 w (omega arith)) (has_append_right (w ∷ []) vs u h)) vs (all_has_itself vs))
 
 -- ---- clauses
 
 -- what holds of clauses without a fault, behind n tests
 pub record Used (ps : List Part) (n : ℕ) (cs : List Clause) : Type 0 where
-  pub bound : All (λ c. Bound ps (clause_names c)) cs
+  pub bound : AllByRecursion (λ c. Bound ps (clause_names c)) cs
   pub tests : n ≤ 24 → n + tests_of cs ≤ 24
-  pub single : All (λ c. Single (negatives ps (clause_names c))) cs
+  pub single : AllByRecursion (λ c. Single (negatives ps (clause_names c))) cs
 
 clause_fits : (ps : List Part) (n : ℕ) (c : Clause) → clause_faults ps n c ≡ [] → Fit ps (clause_names c) n (clause_tests c)
 clause_fits ps n same_key e = (tt, λ h. omega arith)
@@ -116,7 +116,7 @@ clause_clean ps n same_key a h s = refl
 clause_clean ps n (condition p c) a h s =
     nils_from (cond_faults ps n c) _ (cond_clean ps n c a h) (where_none _ (TwoNegatives p) (single_clean (negatives ps (cond_names c)) s))
 
-pub used_clean : (ps : List Part) (n : ℕ) (cs : List Clause) → All (λ c. Bound ps (clause_names c)) cs → n + tests_of cs ≤ 24 → All (λ c. Single (negatives ps (clause_names c))) cs →
+pub used_clean : (ps : List Part) (n : ℕ) (cs : List Clause) → AllByRecursion (λ c. Bound ps (clause_names c)) cs → n + tests_of cs ≤ 24 → AllByRecursion (λ c. Single (negatives ps (clause_names c))) cs →
     clauses_faults ps n cs ≡ []
 used_clean ps n [] a h s = refl
 used_clean ps n (c ∷ cs) a h s =

@@ -10,7 +10,7 @@ use Rattle.sense.specs.Sense.{Limits, sense_faults}
 use Rattle.sense.specs.declared.clauses.Step.TheVariants.{And}
 use Rattle.sense.specs.declared.draft.Draft.{Draft}
 use Rattle.sense.specs.declared.fault.SenseFault.{SenseFault}
-use Rattle.std.specs.List.{ContainsAt as Has, AllByRecursion as All}
+use Rattle.std.specs.List.{ContainsAt, AllByRecursion}
 
 -- the draft holds the meaning r, each piece in its room
 pub record Drafts (d : Draft) (r : Reading) : Type 0 where
@@ -25,14 +25,14 @@ pub record Drafts (d : Draft) (r : Reading) : Type 0 where
 
 -- variables are single bytes, as in every text
 abbrev pub Lettered : Syntax → Type 0
-Lettered q = All (λ p. p.variable.letter < 256) q.parts
+Lettered q = AllByRecursion (λ p. p.variable.letter < 256) q.parts
 
 pub record SenseLaw (q : Syntax) : Type 0 where
   -- the draft knows the first of all faults
   pub fault : Lettered q → (drafted q).fault ≡ least (sense_faults q)
   -- the first is one of them, and no later than any
-  pub some : (f : SenseFault) → least (sense_faults q) ≡ Some f → Has (sense_faults q) f
-  pub first : (f : SenseFault) → least (sense_faults q) ≡ Some f → All (NoLater f) (sense_faults q)
+  pub some : (f : SenseFault) → least (sense_faults q) ≡ Some f → ContainsAt (sense_faults q) f
+  pub first : (f : SenseFault) → least (sense_faults q) ≡ Some f → AllByRecursion (NoLater f) (sense_faults q)
   -- there is none exactly where the limits are kept; a query has a part
   pub kept : 1 ≤ length q.parts → least (sense_faults q) ≡ None → Limits q
   pub clean : Limits q → least (sense_faults q) ≡ None

@@ -11,7 +11,7 @@ use Rattle.grammar.specs.declared.test.Side.{Side}
 use Rattle.grammar.specs.declared.test.Side.TheVariants.{Alone, Sum, Difference}
 use Rattle.sense.specs.declared.fault.SenseFault.{SenseFault}
 use Rattle.sense.specs.declared.fault.SenseFault.TheVariants.{UnknownKind, Doubled, Unbound, Shape, ManyTests, TwoNegatives, Window}
-use Rattle.std.specs.List.{ContainsAt as Has, AllByRecursion as All}
+use Rattle.std.specs.List.{ContainsAt, AllByRecursion}
 
 -- ---- what is counted
 
@@ -80,7 +80,7 @@ negatives ps (n ∷ ns) = cond (is_negative ps n.letter) (n.letter ∷ negatives
 -- each differs from all that follow
 abbrev pub Distinct : List ℕ → Type 0
 Distinct [] = Unit {0}
-Distinct (v ∷ vs) = All (λ u. u ≢ v) vs × Distinct vs
+Distinct (v ∷ vs) = AllByRecursion (λ u. u ≢ v) vs × Distinct vs
 
 -- a negative part is followed by a positive one
 abbrev pub Followed : List Part → Type 0
@@ -90,7 +90,7 @@ Followed (p ∷ r ∷ ps) = (p.negative ≡ true → r.negative ≡ false) × Fo
 
 pub record Limits (q : Syntax) : Type 0 where
   -- each kind word names a kind
-  pub kinds : All (λ p. All (λ w. is_some (kind_named w.0) ≡ true) p.kinds) q.parts
+  pub kinds : AllByRecursion (λ p. AllByRecursion (λ w. is_some (kind_named w.0) ≡ true) p.kinds) q.parts
   -- each variable stands once in the sequence
   pub once : Distinct (map (λ p. p.variable.letter) q.parts)
   -- there are 1 to 6 positive parts; at most one negative stands before each, and none after the last
@@ -98,10 +98,10 @@ pub record Limits (q : Syntax) : Type 0 where
   pub few : positives q.parts ≤ 6
   pub followed : Followed q.parts
   -- tests use variables of the sequence, and there are at most 24
-  pub bound : All (λ c. All (λ n. is_some (owner q.parts n.letter) ≡ true) (clause_names c)) q.clauses
+  pub bound : AllByRecursion (λ c. AllByRecursion (λ n. is_some (owner q.parts n.letter) ≡ true) (clause_names c)) q.clauses
   pub tests : tests_of q.clauses ≤ 24
   -- a clause uses at most one negative variable
-  pub single : All (λ c. (u v : ℕ) → Has (negatives q.parts (clause_names c)) u → Has (negatives q.parts (clause_names c)) v → u ≡ v) q.clauses
+  pub single : AllByRecursion (λ c. (u v : ℕ) → ContainsAt (negatives q.parts (clause_names c)) u → ContainsAt (negatives q.parts (clause_names c)) v → u ≡ v) q.clauses
   pub least_window : 1 ≤ q.window
   pub largest_window : q.window ≤ 864000
 
