@@ -1,7 +1,7 @@
 // Single tokens: each of these takes one off the front of what is left of a text of `end` bytes.
 ghost use Rattle.std.specs.Prelude.{◌≡◌, ℕ, ◌<◌, ◌∷◌, IfSome, IfOk};
 ghost use Rattle.grammar.specs.Known.{is_mark, is_word, variable_of, reading_of, kind_of, number_of, comparison_of};
-ghost use Rattle.grammar.specs.Reading.{fixed, expect, known as Known-as, past};
+ghost use Rattle.grammar.specs.Reading.{fixed, expect, known as known_as, past};
 ghost use Rattle.grammar.specs.Shown.{count, shown, shown_by, bytes_and_place, rest_shown, First};
 ghost use Rattle.letters.specs.Tokens.{tokens_of, placed};
 
@@ -27,7 +27,7 @@ fn known<'a, T>(
     place: usize,
     rest: &'a [u8],
 ) -> Result<((T, usize), &'a [u8]), GrammarFault>
-    ensures value { (end : ℕ) → shown end result ≡ Known-as IfSome place (tokens_of end rest.now) }
+    ensures value { (end : ℕ) → shown end result ≡ known_as found place (tokens_of end rest.now) }
     ensures fewer { IfOk result (λ p. p.1.now ≡ rest.now) }
 {
     match found {
