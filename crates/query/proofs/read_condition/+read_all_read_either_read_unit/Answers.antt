@@ -18,11 +18,11 @@ read-all-loop-after-init t c = begun (is_word class.And) (joining And (unit_run 
 
 pub read-all-returns-in-err-rest-2 : goal.read-all-returns-in-err-rest-2
 read-all-returns-in-err-rest-2 t c =
-    let p = err_from_is_err_and c.from-residual-in-err-rest-2.result c.from-residual-in-err-rest-2.ensures.1 in
+    let p = err_from_is_err_and c.from_residual-in_err-rest-2.result c.from_residual-in_err-rest-2.ensures.1 in
     let unit = unit_run c.args.depth c.args.end in
     rw (p.1, p.2) (record {
-      value = failed (is_word class.And) (joining And unit) unit c.args.draft.now (tokens_of c.args.end c.args.text.now) _ c.in-err-rest-2.field-0.0
-          c.in-ok-rest.ensures.value c.loop-after.invariant c.in-Some.ensures.value (ap (giving (λ (d : Draft). joined d And)) c.in-err-rest-2.ensures.value);
+      value = failed (is_word class.And) (joining And unit) unit c.args.draft.now (tokens_of c.args.end c.args.text.now) _ c.in_err-rest-2.field-0.0
+          c.in_ok-rest.ensures.value c.loop-after.invariant c.in-Some.ensures.value (ap (giving (λ (d : Draft). joined d And)) c.in_err-rest-2.ensures.value);
       fewer = tt;
     })
 
@@ -30,22 +30,22 @@ pub read-all-loop-after-preserved : goal.read-all-loop-after-preserved
 read-all-loop-after-preserved t c =
     rw c.join.ensures
     (again (is_word class.And) (joining And (unit_run c.args.depth c.args.end)) _ _ _ c.loop-after.invariant c.in-Some.ensures.value
-    (ap (giving (λ (d : Draft). joined d And)) c.in-ok-rest-2.ensures.value) (omega (arith, c.in-ok-rest-2.ensures.fewer)))
+    (ap (giving (λ (d : Draft). joined d And)) c.in_ok-rest-2.ensures.value) (omega (arith, c.in_ok-rest-2.ensures.fewer)))
 
 pub read-all-returns : goal.read-all-returns
 read-all-returns t c =
     let unit = unit_run c.args.depth c.args.end in
     record {
       value = ended (is_word class.And) (joining And unit) unit c.args.draft.now (tokens_of c.args.end c.args.text.now)
-          c.in-ok-rest.ensures.value c.loop-after.invariant c.in-default.ensures.value;
-      fewer = omega (arith, c.in-ok-rest.ensures.fewer, c.loop-after.invariant.within);
+          c.in_ok-rest.ensures.value c.loop-after.invariant c.in_default.ensures.value;
+      fewer = omega (arith, c.in_ok-rest.ensures.fewer, c.loop-after.invariant.within);
     }
 
 pub read-either-returns-in-err-rest : goal.read-either-returns-in-err-rest
 read-either-returns-in-err-rest t c =
-    let p = err_from_is_err_and c.from-residual.result c.from-residual.ensures.1 in
+    let p = err_from_is_err_and c.from_residual.result c.from_residual.ensures.1 in
     rw (p.1, p.2) (record {
-      value = ap (λ (r : Read Draft). then r (λ d rest. more (is_word class.Or) (joining Or (all_run c.args.depth c.args.end)) (length rest) d rest)) c.in-err-rest.ensures.value ∙
+      value = ap (λ (r : Read Draft). then r (λ d rest. more (is_word class.Or) (joining Or (all_run c.args.depth c.args.end)) (length rest) d rest)) c.in_err-rest.ensures.value ∙
           sym (either_is c.args.depth c.args.end c.args.draft.now (tokens_of c.args.end c.args.text.now));
       fewer = tt;
     })
@@ -55,11 +55,11 @@ read-either-loop-after-init t c = begun (is_word class.Or) (joining Or (all_run 
 
 pub read-either-returns-in-err-rest-2 : goal.read-either-returns-in-err-rest-2
 read-either-returns-in-err-rest-2 t c =
-    let p = err_from_is_err_and c.from-residual-in-err-rest-2.result c.from-residual-in-err-rest-2.ensures.1 in
+    let p = err_from_is_err_and c.from_residual-in_err-rest-2.result c.from_residual-in_err-rest-2.ensures.1 in
     let all = all_run c.args.depth c.args.end in
     rw (p.1, p.2) (record {
-      value = failed (is_word class.Or) (joining Or all) all c.args.draft.now (tokens_of c.args.end c.args.text.now) _ c.in-err-rest-2.field-0.0
-          c.in-ok-rest.ensures.value c.loop-after.invariant c.in-Some.ensures.value (ap (giving (λ (d : Draft). joined d Or)) c.in-err-rest-2.ensures.value) ∙
+      value = failed (is_word class.Or) (joining Or all) all c.args.draft.now (tokens_of c.args.end c.args.text.now) _ c.in_err-rest-2.field-0.0
+          c.in_ok-rest.ensures.value c.loop-after.invariant c.in-Some.ensures.value (ap (giving (λ (d : Draft). joined d Or)) c.in_err-rest-2.ensures.value) ∙
           sym (either_is c.args.depth c.args.end c.args.draft.now (tokens_of c.args.end c.args.text.now));
       fewer = tt;
     })
@@ -68,27 +68,27 @@ pub read-either-loop-after-preserved : goal.read-either-loop-after-preserved
 read-either-loop-after-preserved t c =
     rw c.join.ensures
     (again (is_word class.Or) (joining Or (all_run c.args.depth c.args.end)) _ _ _ c.loop-after.invariant c.in-Some.ensures.value
-    (ap (giving (λ (d : Draft). joined d Or)) c.in-ok-rest-2.ensures.value) (omega (arith, c.in-ok-rest-2.ensures.fewer)))
+    (ap (giving (λ (d : Draft). joined d Or)) c.in_ok-rest-2.ensures.value) (omega (arith, c.in_ok-rest-2.ensures.fewer)))
 
 pub read-either-returns : goal.read-either-returns
 read-either-returns t c =
     let all = all_run c.args.depth c.args.end in
     record {
       value = ended (is_word class.Or) (joining Or all) all c.args.draft.now (tokens_of c.args.end c.args.text.now)
-          c.in-ok-rest.ensures.value c.loop-after.invariant c.in-default.ensures.value ∙
+          c.in_ok-rest.ensures.value c.loop-after.invariant c.in_default.ensures.value ∙
           sym (either_is c.args.depth c.args.end c.args.draft.now (tokens_of c.args.end c.args.text.now));
-      fewer = omega (arith, c.in-ok-rest.ensures.fewer, c.loop-after.invariant.within);
+      fewer = omega (arith, c.in_ok-rest.ensures.fewer, c.loop-after.invariant.within);
     }
 
 pub read-unit-returns-in-err-rest-2 : goal.read-unit-returns-in-err-rest-2
 read-unit-returns-in-err-rest-2 t c =
-    let p = err_from_is_err_and c.from-residual-in-err-rest-2.result c.from-residual-in-err-rest-2.ensures.1 in
+    let p = err_from_is_err_and c.from_residual-in_err-rest-2.result c.from_residual-in_err-rest-2.ensures.1 in
     let end = c.args.end in
-    let opens : is_mark Open (seen c.in-ok-token.token.token) ≡ true = sym c.is_mark.ensures ∙ c.if-not-is-mark.false in
+    let opens : is_mark Open (seen c.in_ok-token.token.token) ≡ true = sym c.is_mark.ensures ∙ c.if-not-is_mark.false in
     let deep : 0 < c.args.depth = omega arith in
     rw (p.1, p.2) (record {
-      value = sym (unit_is c.args.depth end c.args.draft.now (tokens_of end c.args.text.now) (placed c.in-ok-token.token) (tokens_of end c.in-ok-token.rest.now)
-          c.in-ok-token.ensures.value opens deep ∙ ap (λ (r : Read Draft). then r (closed end)) (sym c.in-ok-rest.ensures.value) ∙
-          ap (giving (λ q. c.read-either.new.draft)) (sym c.in-err-rest-2.ensures.value));
+      value = sym (unit_is c.args.depth end c.args.draft.now (tokens_of end c.args.text.now) (placed c.in_ok-token.token) (tokens_of end c.in_ok-token.rest.now)
+          c.in_ok-token.ensures.value opens deep ∙ ap (λ (r : Read Draft). then r (closed end)) (sym c.in_ok-rest.ensures.value) ∙
+          ap (giving (λ q. c.read_either.new.draft)) (sym c.in_err-rest-2.ensures.value));
       fewer = tt;
     })

@@ -10,24 +10,24 @@ use Rattle.std.proofs.lemmas.Result.{err_from_is_err_and}
 pub loop-after-init : goal.loop-after-init
 loop-after-init c = begun (is_mark Comma) (part_run c.args.end) _ _
 
-pub returns-in-err-rest-2 : goal.returns-in-err-rest-2
-returns-in-err-rest-2 c =
-    let p = err_from_is_err_and c.from-residual-in-err-rest-2.result c.from-residual-in-err-rest-2.ensures.1 in
+pub returns-in_err-rest-2 : goal.returns-in_err-rest-2
+returns-in_err-rest-2 c =
+    let p = err_from_is_err_and c.from_residual-in_err-rest-2.result c.from_residual-in_err-rest-2.ensures.1 in
     let run = part_run c.args.end in
     rw (p.1, p.2) (record {
-      value = failed (is_mark Comma) run run c.args.draft.now (tokens_of c.args.end c.args.text.now) _ c.in-err-rest-2.field-0.0 c.in-ok-rest.ensures.value c.loop-after.invariant c.in-Some.ensures.value c.in-err-rest-2.ensures.value;
+      value = failed (is_mark Comma) run run c.args.draft.now (tokens_of c.args.end c.args.text.now) _ c.in_err-rest-2.field-0.0 c.in_ok-rest.ensures.value c.loop-after.invariant c.in-Some.ensures.value c.in_err-rest-2.ensures.value;
       fewer = tt;
     })
 
 pub loop-after-preserved : goal.loop-after-preserved
 loop-after-preserved c =
-    again (is_mark Comma) (part_run c.args.end) _ _ _ c.loop-after.invariant c.in-Some.ensures.value c.in-ok-rest-2.ensures.value
-    (omega (arith, c.in-ok-rest-2.ensures.fewer))
+    again (is_mark Comma) (part_run c.args.end) _ _ _ c.loop-after.invariant c.in-Some.ensures.value c.in_ok-rest-2.ensures.value
+    (omega (arith, c.in_ok-rest-2.ensures.fewer))
 
 pub returns : goal.returns
 returns c =
     let run = part_run c.args.end in
     record {
-      value = ended (is_mark Comma) run run c.args.draft.now (tokens_of c.args.end c.args.text.now) c.in-ok-rest.ensures.value c.loop-after.invariant c.in-default.ensures.value;
-      fewer = omega (arith, c.in-ok-rest.ensures.fewer, c.loop-after.invariant.within);
+      value = ended (is_mark Comma) run run c.args.draft.now (tokens_of c.args.end c.args.text.now) c.in_ok-rest.ensures.value c.loop-after.invariant c.in_default.ensures.value;
+      fewer = omega (arith, c.in_ok-rest.ensures.fewer, c.loop-after.invariant.within);
     }

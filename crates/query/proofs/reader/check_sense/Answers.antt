@@ -5,8 +5,8 @@ use Rattle.query.proofs.reader.check_sense.Goals as goal
 pub returns-in-Some : goal.returns-in-Some
 returns-in-Some c q from = let some : c.args.draft.now.fault ≡ Some c.in-Some.fault = search rules in sym (first_fault c.args.draft.now q from) ∙ some
 
-pub invariant-of-result : goal.invariant-of-result
-invariant-of-result c =
+pub invariant_of-result : goal.invariant_of-result
+invariant_of-result c =
     let d = c.args.draft.now in
     let q = c.requires.0 in
     let from = c.requires.1 in

@@ -9,38 +9,38 @@ use Rattle.query.specs.Judged.{DraftedFrom}
 use Rattle.sense.specs.Drafting.{drafted}
 use Rattle.std.proofs.lemmas.Result.{err_from_is_err_and}
 
-pub returns-in-err-check-letters : goal.returns-in-err-check-letters
-returns-in-err-check-letters c =
-    let p = err_from_is_err_and c.from-residual.result c.from-residual.ensures.1 in
-    rw (p.1, p.2) (record { value = (bad_letters c.args.text.now _ (sym c.in-err-check-letters.ensures.answer), refl); law = language_law c.args.text.now })
+pub returns-in_err-check_letters : goal.returns-in_err-check_letters
+returns-in_err-check_letters c =
+    let p = err_from_is_err_and c.from_residual.result c.from_residual.ensures.1 in
+    rw (p.1, p.2) (record { value = (bad_letters c.args.text.now _ (sym c.in_err-check_letters.ensures.answer), refl); law = language_law c.args.text.now })
 
-pub returns-in-err-draft : goal.returns-in-err-draft
-returns-in-err-draft c =
-    let p = err_from_is_err_and c.from-residual-in-err-draft.result c.from-residual-in-err-draft.ensures.1 in
+pub returns-in_err-draft : goal.returns-in_err-draft
+returns-in_err-draft c =
+    let p = err_from_is_err_and c.from_residual-in_err-draft.result c.from_residual-in_err-draft.ensures.1 in
     let text = c.args.text.now in
     rw (p.1, p.2) (record {
-      value = (bad_grammar text _ (sym c.in-ok-check-letters.ensures.answer) (drafted_fault (query_at 8 (length text) (text_tokens text)) _ c.in-err-draft.ensures), refl);
+      value = (bad_grammar text _ (sym c.in_ok-check_letters.ensures.answer) (drafted_fault (query_at 8 (length text) (text_tokens text)) _ c.in_err-draft.ensures), refl);
       law = language_law text;
     })
 
 -- what was read, where the grammar has no fault
-read_syntax : (c : InOkDraft) → (q : Syntax) × (query_at 8 (length c.args.text.now) (text_tokens c.args.text.now) ≡ Ok q) × (c.in-ok-draft.draft ≡ drafted q)
-read_syntax c = drafted_syntax _ c.in-ok-draft.draft c.in-ok-draft.ensures
+read_syntax : (c : InOkDraft) → (q : Syntax) × (query_at 8 (length c.args.text.now) (text_tokens c.args.text.now) ≡ Ok q) × (c.in_ok-draft.draft ≡ drafted q)
+read_syntax c = drafted_syntax _ c.in_ok-draft.draft c.in_ok-draft.ensures
 
-pub check-sense-requires : goal.check-sense-requires
-check-sense-requires c =
-    let q = read_syntax (goal.at.check-sense-requires c).In-ok-draft in
-    (q.0, from_text c.args.text.now c.in-ok-draft.draft q.0 q.1 q.2)
+pub check_sense-requires : goal.check_sense-requires
+check_sense-requires c =
+    let q = read_syntax (goal.at.check_sense-requires c).In_ok-draft in
+    (q.0, from_text c.args.text.now c.in_ok-draft.draft q.0 q.1 q.2)
 
-pub returns-in-err-place : goal.returns-in-err-place
-returns-in-err-place c =
-    let p = err_from_is_err_and c.from-residual-in-err-place.result c.from-residual-in-err-place.ensures.1 in
+pub returns-in_err-place : goal.returns-in_err-place
+returns-in_err-place c =
+    let p = err_from_is_err_and c.from_residual-in_err-place.result c.from_residual-in_err-place.ensures.1 in
     let text = c.args.text.now in
-    let q = read_syntax (goal.at.returns-in-err-place c).In-ok-draft in
+    let q = read_syntax (goal.at.returns-in_err-place c).In_ok-draft in
     rw (p.1, p.2) (record {
       value = (
-        bad_sense text q.0 _ (sym c.in-ok-check-letters.ensures.answer) q.1
-            (c.in-err-place.ensures q.0 (from_text text c.in-ok-draft.draft q.0 q.1 q.2)),
+        bad_sense text q.0 _ (sym c.in_ok-check_letters.ensures.answer) q.1
+            (c.in_err-place.ensures q.0 (from_text text c.in_ok-draft.draft q.0 q.1 q.2)),
         refl,
       );
       law = language_law text;
@@ -49,6 +49,6 @@ returns-in-err-place c =
 pub returns : goal.returns
 returns c =
     let text = c.args.text.now in
-    let q = read_syntax (goal.at.returns c).In-ok-draft in
-    let judged = c.in-ok-place.ensures q.0 (from_text text c.in-ok-draft.draft q.0 q.1 q.2) in
-    record { value = good text q.0 (sym c.in-ok-check-letters.ensures.answer) q.1 judged.0 ∙ ap Ok (sym judged.1); law = language_law text }
+    let q = read_syntax (goal.at.returns c).In_ok-draft in
+    let judged = c.in_ok-place.ensures q.0 (from_text text c.in_ok-draft.draft q.0 q.1 q.2) in
+    record { value = good text q.0 (sym c.in_ok-check_letters.ensures.answer) q.1 judged.0 ∙ ap Ok (sym judged.1); law = language_law text }

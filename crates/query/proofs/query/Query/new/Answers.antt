@@ -2,8 +2,8 @@ use Rattle.std.proofs.Common.{refl}
 use Rattle.query.proofs.Contained.{new_text, new_reading, new_answer, says_read}
 use Rattle.query.proofs.query.Query.new.Goals as goal
 
-pub invariant-of-result : goal.invariant-of-result
-invariant-of-result c = ((refl, refl), ((refl, refl), ((refl, refl), (∣ says_read new_text new_reading new_answer ∣₁, tt))))
+pub invariant_of-result : goal.invariant_of-result
+invariant_of-result c = ((refl, refl), ((refl, refl), ((refl, refl), (∣ says_read new_text new_reading new_answer ∣₁, tt))))
 
 pub returns : goal.returns
 returns c = new_answer
