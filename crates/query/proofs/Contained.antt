@@ -1,5 +1,6 @@
 -- What the fields of a query hold. Assumes nothing.
 use Rattle.std.proofs.Common.{◌≡◌, ℕ, ◌+◌, ◌-◌, Bool, true, false, cond, List, [], ◌∷◌, ◌++◌, length, take, set, Ok, codes, count_by, sym, refl, ap, ◌∙◌, arith}
+use Rattle.std.proofs.lemmas.List.Sums.{sum_by-append}
 use Rattle.query.proofs.Answering.{language_law}
 use Rattle.query.proofs.Making.{front}
 use Rattle.query.specs.Answer.{answer_of, text_tokens}
@@ -57,15 +58,18 @@ is_test (Test t) = true
 is_test And = false
 is_test Or = false
 
+tests_append : (xs ys : List Step) → count_by is_test (xs ++ ys) ≡ count_by is_test xs + count_by is_test ys
+tests_append = sum_by-append (λ x. cond (is_test x) 1 0)
+
 postfix_tests : (t : Tree) → count_by is_test (postfix t) ≡ tree_tests t
 postfix_tests (leaf t) = refl
 postfix_tests (and a b) =
-    countBy_append is_test (postfix a) (postfix b ++ (And ∷ [])) ∙
-    omega (arith, postfix_tests a, postfix_tests b, countBy_append is_test (postfix b) (And ∷ []))
+    tests_append (postfix a) (postfix b ++ (And ∷ [])) ∙
+    omega (arith, postfix_tests a, postfix_tests b, tests_append (postfix b) (And ∷ []))
 postfix_tests (or a b) =
-    countBy_append is_test (postfix a) (postfix b ++ (Or ∷ [])) ∙
-    omega (arith, postfix_tests a, postfix_tests b, countBy_append is_test (postfix b) (Or ∷ []))
+    tests_append (postfix a) (postfix b ++ (Or ∷ [])) ∙
+    omega (arith, postfix_tests a, postfix_tests b, tests_append (postfix b) (Or ∷ []))
 
 pub steps_tests : (ts : List Tree) → count_by is_test (steps_of ts) ≡ tests_in ts
 steps_tests [] = refl
-steps_tests (t ∷ ts) = countBy_append is_test (postfix t) (steps_of ts) ∙ omega (arith, postfix_tests t, steps_tests ts)
+steps_tests (t ∷ ts) = tests_append (postfix t) (steps_of ts) ∙ omega (arith, postfix_tests t, steps_tests ts)

@@ -10,7 +10,7 @@ use letters::{Class, Symbol};
 use sense::{Draft, Step};
 
 // A test, or a condition in parentheses.
-#[cycle(read_all_read_either_read_unit)]
+#[cycle(condition)]
 pub(crate) fn read_unit<'a>(
     text: &'a [u8],
     end: usize,
@@ -35,7 +35,7 @@ pub(crate) fn read_unit<'a>(
 }
 
 // Units joined by AND.
-#[cycle(read_all_read_either_read_unit)]
+#[cycle(condition)]
 fn read_all<'a>(
     text: &'a [u8],
     end: usize,
@@ -54,7 +54,7 @@ fn read_all<'a>(
 }
 
 // The like of these joined by OR: a whole condition.
-#[cycle(read_all_read_either_read_unit)]
+#[cycle(condition)]
 fn read_either<'a>(
     text: &'a [u8],
     end: usize,

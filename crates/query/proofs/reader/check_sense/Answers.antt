@@ -11,7 +11,12 @@ invariant_of-result c =
     let q = c.requires.0 in
     let from = c.requires.1 in
     let none : d.fault ≡ None = search rules in
-    (holds_parts d q from none, (holds_steps d q from none, (holds_ends d q from none, (∣ is_read d q from none ∣₁, tt))))
+    record {
+      sequence = holds_parts d q from none;
+      conditions = holds_steps d q from none;
+      clauses = holds_ends d q from none;
+      read = ∣ is_read d q from none ∣₁;
+    }
 
 pub returns : goal.returns
 returns c q from =

@@ -3,7 +3,6 @@ use Rattle.grammar.specs.Reading.{query_at}
 use Rattle.grammar.specs.Syntax.{Syntax}
 use Rattle.query.proofs.Answering.{bad_letters, bad_grammar, bad_sense, good, drafted_fault, drafted_syntax, from_text, language_law}
 use Rattle.query.proofs.reader.read.Goals as goal
-use Rattle.query.proofs.reader.read.Goals.{InOkDraft}
 use Rattle.query.specs.Answer.{text_tokens}
 use Rattle.query.specs.Judged.{DraftedFrom}
 use Rattle.sense.specs.Drafting.{drafted}
@@ -23,20 +22,16 @@ returns-in_err-draft c =
       law = language_law text;
     })
 
--- what was read, where the grammar has no fault
-read_syntax : (c : InOkDraft) → (q : Syntax) × (query_at 8 (length c.args.text.now) (text_tokens c.args.text.now) ≡ Ok q) × (c.in_ok-draft.draft ≡ drafted q)
-read_syntax c = drafted_syntax _ c.in_ok-draft.draft c.in_ok-draft.ensures
-
 pub check_sense-requires : goal.check_sense-requires
 check_sense-requires c =
-    let q = read_syntax (goal.at.check_sense-requires c).In_ok-draft in
+    let q = drafted_syntax _ c.in_ok-draft.draft c.in_ok-draft.ensures in
     (q.0, from_text c.args.text.now c.in_ok-draft.draft q.0 q.1 q.2)
 
 pub returns-in_err-place : goal.returns-in_err-place
 returns-in_err-place c =
     let p = err_from_is_err_and c.from_residual-in_err-place.result c.from_residual-in_err-place.ensures.1 in
     let text = c.args.text.now in
-    let q = read_syntax (goal.at.returns-in_err-place c).In_ok-draft in
+    let q = drafted_syntax _ c.in_ok-draft.draft c.in_ok-draft.ensures in
     rw (p.1, p.2) (record {
       value = (
         bad_sense text q.0 _ (sym c.in_ok-check_letters.ensures.answer) q.1
@@ -49,6 +44,6 @@ returns-in_err-place c =
 pub returns : goal.returns
 returns c =
     let text = c.args.text.now in
-    let q = read_syntax (goal.at.returns c).In_ok-draft in
+    let q = drafted_syntax _ c.in_ok-draft.draft c.in_ok-draft.ensures in
     let judged = c.in_ok-place.ensures q.0 (from_text text c.in_ok-draft.draft q.0 q.1 q.2) in
     record { value = good text q.0 (sym c.in_ok-check_letters.ensures.answer) q.1 judged.0 ∙ ap Ok (sym judged.1); law = language_law text }
