@@ -4,7 +4,6 @@ use Rattle.std.specs.Prelude.{◌≡◌, ℕ, suc, ◌⊎◌, List, [], ◌∷�
 use Rattle.grammar.specs.Grammar.{ReadsQuery}
 use Rattle.grammar.specs.Reading.{query_at}
 use Rattle.grammar.specs.Syntax.{Syntax}
-use Rattle.grammar.specs.declared.fault.GrammarFault.{GrammarFault}
 use Rattle.grammar.specs.declared.fault.GrammarFault.TheVariants.{WrongToken, TooDeep}
 use Rattle.letters.specs.Tokens.{Placed}
 

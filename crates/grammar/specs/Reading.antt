@@ -13,7 +13,6 @@ use Rattle.grammar.specs.declared.test.Item.TheVariants as item
 use Rattle.grammar.specs.declared.test.Name.{Name}
 use Rattle.grammar.specs.declared.test.Side.{Side}
 use Rattle.grammar.specs.declared.test.Side.TheVariants.{Alone, Sum, Difference}
-use Rattle.grammar.specs.declared.test.Test.{Test}
 use Rattle.letters.specs.Tokens.{Tok, Placed}
 use Rattle.letters.specs.declared.symbol.Symbol.TheVariants.{Open, Close, Comma, Not, Dot, OpenSquare, CloseSquare, Plus, Minus}
 use Rattle.letters.specs.declared.word.Class.TheVariants.{Event, Seq, Where, Within, And, Or, Any, Key}

@@ -1,8 +1,7 @@
 -- The answer for a text, layer by layer, and the law of the language. Assumes nothing.
-use Rattle.std.proofs.Common.{◌≡◌, ℕ, List, length, Some, None, Ok, Err, Option, Result, sym, refl, ap, ◌∙◌, subst, arith}
+use Rattle.std.proofs.Common.{◌≡◌, ℕ, List, length, Some, None, Ok, Err, Option, Result, sym, refl, ap, ◌∙◌, arith}
 use Rattle.grammar.proofs.Whole.{grammar_law}
 use Rattle.grammar.specs.Grammar.{ReadsQuery}
-use Rattle.grammar.specs.Law.{GoesWrong, GoesDeep}
 use Rattle.grammar.specs.Reading.{query_at}
 use Rattle.grammar.specs.Syntax.{Syntax}
 use Rattle.grammar.specs.declared.fault.GrammarFault.{GrammarFault}
@@ -21,7 +20,7 @@ use Rattle.sense.proofs.Whole.{sense_law}
 use Rattle.sense.specs.Drafting.{drafted}
 use Rattle.sense.specs.Faults.{least, NoLater}
 use Rattle.sense.specs.Meaning.{Reading, reading_of}
-use Rattle.sense.specs.Sense.{Limits, sense_faults}
+use Rattle.sense.specs.Sense.{sense_faults}
 use Rattle.sense.specs.declared.draft.Draft.{Draft}
 use Rattle.sense.specs.declared.fault.SenseFault.{SenseFault}
 use Rattle.std.specs.List.{ContainsAt, AllByRecursion}

@@ -6,9 +6,7 @@ use Rattle.query.proofs.Making.{front}
 use Rattle.query.specs.Answer.{answer_of, text_tokens}
 use Rattle.query.specs.Contents.{tree_tests, tests_in}
 use Rattle.query.specs.Held.{IsRead}
-use Rattle.query.specs.Law.{Says}
-use Rattle.query.specs.Meant.{meaning, SameFields, OneValue}
-use Rattle.query.specs.declared.query.Query.{Query}
+use Rattle.query.specs.Meant.{OneValue}
 use Rattle.sense.specs.Drafted.{no_kinds, blank}
 use Rattle.sense.specs.Meaning.{Reading, Tree, laid, postfix, steps_of, ends_from}
 use Rattle.sense.specs.Meaning.Tree.{leaf, and, or}

@@ -1,5 +1,5 @@
 -- What every query of the grammar has: a part, and variables of one byte. Assumes nothing.
-use Rattle.std.proofs.Common.{◌≡◌, ℕ, ◌<◌, ◌≤◌, Bool, true, false, cond, ◌&&◌, eqb, leb, List, [], ◌∷◌, ◌++◌, length, get_or, Some, None, codes, sym, refl, ap, ◌∙◌, subst, arith, length-append}
+use Rattle.std.proofs.Common.{◌≡◌, ℕ, ◌<◌, ◌≤◌, true, cond, ◌&&◌, eqb, leb, List, [], ◌∷◌, length, get_or, Some, None, codes, arith, length-append}
 use Rattle.grammar.specs.Grammar.{Separated, ReadsPart, ReadsQuery}
 use Rattle.grammar.specs.Grammar.ReadsPart.{positive, negative}
 use Rattle.grammar.specs.Grammar.ReadsQuery.{query}

@@ -1,5 +1,5 @@
 -- A query made of a draft that has no fault. Assumes nothing.
-use Rattle.std.proofs.Common.{◌≡◌, ℕ, suc, ◌+◌, List, [], ◌∷◌, length, take, Some, None, Option, sym, refl, ap, ◌∙◌, subst}
+use Rattle.std.proofs.Common.{◌≡◌, ℕ, suc, ◌+◌, List, [], ◌∷◌, length, take, None, sym, refl, ap, ◌∙◌, subst}
 use Rattle.grammar.specs.Syntax.{Syntax}
 use Rattle.query.proofs.Lettered.{lettered, some_part}
 use Rattle.query.proofs.Rebuilt.{take_laid, trees_of_steps}
@@ -7,16 +7,12 @@ use Rattle.query.specs.Held.{decoded, trees, HoldsParts, HoldsSteps, HoldsEnds, 
 use Rattle.query.specs.Judged.{DraftedFrom}
 use Rattle.sense.proofs.Whole.{sense_law}
 use Rattle.sense.specs.Drafted.{blank}
-use Rattle.sense.specs.Drafting.{drafted}
 use Rattle.sense.specs.Faults.{least}
 use Rattle.sense.specs.Law.{Drafts}
 use Rattle.sense.specs.Meaning.{Reading, Tree, reading_of, laid, postfix, steps_of, ends_from}
 use Rattle.sense.specs.Sense.{Limits, sense_faults}
-use Rattle.sense.specs.declared.clauses.Step.{Step}
 use Rattle.sense.specs.declared.clauses.Step.TheVariants.{And}
 use Rattle.sense.specs.declared.draft.Draft.{Draft}
-use Rattle.sense.specs.declared.fault.SenseFault.{SenseFault}
-use Rattle.sense.specs.declared.part.Part.{Part}
 
 -- what a draft means
 abbrev pub draft_meaning : Draft → Reading

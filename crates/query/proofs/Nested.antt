@@ -1,7 +1,7 @@
 -- Conditions, level by level. Assumes nothing.
 use Rattle.std.proofs.Common.{◌≡◌, ℕ, zero, suc, ◌-◌, ◌<◌, true, List, ◌∷◌, refl, ap, ◌∙◌, arith}
 use Rattle.grammar.specs.Known.{is_mark, is_word}
-use Rattle.grammar.specs.Reading.{Read, then}
+use Rattle.grammar.specs.Reading.{then}
 use Rattle.letters.specs.Tokens.{Placed}
 use Rattle.letters.specs.declared.symbol.Symbol.TheVariants.{Open}
 use Rattle.letters.specs.declared.word.Class.TheVariants as class

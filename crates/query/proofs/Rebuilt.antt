@@ -1,11 +1,11 @@
 -- What is laid out can be read off again. Assumes nothing.
-use Rattle.std.proofs.Common.{◌≡◌, ℕ, ◌-◌, List, [], ◌∷◌, ◌++◌, reverse, length, take, replicate, sym, refl, ap, ◌∙◌, append_assoc, arith}
+use Rattle.std.proofs.Common.{◌≡◌, ℕ, List, [], ◌∷◌, ◌++◌, reverse, length, take, refl, ap, ◌∙◌, append_assoc, arith}
 use mathlib.Core.List.{reverse_aux}
-use Rattle.query.specs.Held.{built, top_joined, trees}
+use Rattle.query.specs.Held.{built, trees}
 use Rattle.sense.specs.Meaning.{Tree, laid, postfix, steps_of}
 use Rattle.sense.specs.Meaning.Tree.{leaf, and, or}
 use Rattle.sense.specs.declared.clauses.Step.{Step}
-use Rattle.sense.specs.declared.clauses.Step.TheVariants.{Test, And, Or}
+use Rattle.sense.specs.declared.clauses.Step.TheVariants.{And, Or}
 use Rattle.std.proofs.lemmas.List.{take-append-le, take_all, reverse-reverse}
 
 -- the front of a room is what was put in

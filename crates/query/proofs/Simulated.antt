@@ -1,19 +1,18 @@
 -- Reading into a draft is drafting what was read. Assumes nothing.
 use Rattle.std.proofs.Common.{◌≡◌, ℕ, zero, suc, true, false, List, [], ◌∷◌, ◌++◌, Ok, Err, Result, sym, refl, ap, ◌∙◌}
-use Rattle.grammar.specs.Known.{is_mark, is_word, variable_of, kind_of, number_of}
+use Rattle.grammar.specs.Known.{is_mark, is_word, variable_of, kind_of}
 use Rattle.grammar.specs.Reading as reading
 use Rattle.grammar.specs.Reading.{Read, then, giving, expect, fixed, if_first, first_place, one, and_one, separated, kinds_at, part_at, parts_at, test_at, part, syntax, clause_at, clauses_at, where_at, sequence_at, window_at, query_front, query_at, finished}
-use Rattle.grammar.specs.Syntax.{Written, Cond, Clause, Word, Part, Syntax}
+use Rattle.grammar.specs.Syntax.{Cond, Clause, Word, Part, Syntax}
 use Rattle.grammar.specs.Syntax.Clause.{same_key, condition}
 use Rattle.grammar.specs.Syntax.Cond.{test, both, either}
 use Rattle.grammar.specs.declared.fault.GrammarFault.{GrammarFault}
-use Rattle.grammar.specs.declared.fault.GrammarFault.TheVariants.{TooDeep}
 use Rattle.letters.specs.Tokens.{Placed}
 use Rattle.letters.specs.declared.symbol.Symbol.TheVariants.{Open, Close, Comma, Not, OpenSquare, CloseSquare}
 use Rattle.letters.specs.declared.word.Class.TheVariants as class
 use Rattle.query.proofs.Told.{giving_then, then_giving, then_same, giving_giving, giving_same, if_first_told, row_told}
-use Rattle.query.specs.Descent.{Run, kind_run, kinds_row, kinds_run, negative_run, part_run, parts_run, joining, unit_with, all_with, either_with, closed, either_run, inner_run, unit_run, all_run, clause_run, clauses_run, where_run, sequence_run, window_run, query_front_run, query_run, as_draft}
-use Rattle.sense.specs.Drafted.{no_draft, part_begun, kind_added, part_ended, parts_ended, with_clauses, key_asked, clause_begun, clause_ended, joined, test_added, window_set}
+use Rattle.query.specs.Descent.{kind_run, kinds_row, kinds_run, part_run, parts_run, joining, unit_with, all_with, either_with, either_run, inner_run, unit_run, clause_run, clauses_run, where_run, sequence_run, window_run, query_front_run, query_run, as_draft}
+use Rattle.sense.specs.Drafted.{no_draft, part_begun, kind_added, part_ended, parts_ended, with_clauses, clause_begun, clause_ended, joined, window_set}
 use Rattle.sense.specs.Drafting.{kinds_drafted, part_drafted, parts_drafted, cond_drafted, clause_drafted, clauses_drafted, drafted}
 use Rattle.sense.specs.declared.clauses.Step.TheVariants.{And, Or}
 use Rattle.sense.specs.declared.draft.Draft.{Draft}

@@ -3,7 +3,7 @@ use Rattle.std.specs.Prelude.{ℕ, zero, suc, Bool, true, false, List, length, O
 use Rattle.std.specs.Borrow.{Bor}
 use Rattle.grammar.specs.Known.{is_mark, is_word, variable_of, kind_of, number_of}
 use Rattle.grammar.specs.Reading.{Read, then, giving, expect, fixed, if_first, more, first_place, test_at, finished}
-use Rattle.grammar.specs.Syntax.{Written, Syntax}
+use Rattle.grammar.specs.Syntax.{Syntax}
 use Rattle.grammar.specs.declared.fault.GrammarFault.{GrammarFault}
 use Rattle.grammar.specs.declared.fault.GrammarFault.TheVariants.{TooDeep}
 use Rattle.letters.specs.Tokens.{Tok, Placed, tokens_of}

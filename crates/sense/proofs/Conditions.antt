@@ -3,7 +3,6 @@ use Rattle.std.proofs.Common.{◌≡◌, ℕ, ◌+◌, min, Bool, false, eqb, Li
 use Rattle.grammar.specs.Syntax.{Written, Cond, Clause, Part}
 use Rattle.grammar.specs.Syntax.Clause.{same_key, condition}
 use Rattle.grammar.specs.Syntax.Cond.{test, both, either}
-use Rattle.grammar.specs.declared.test.Test.{Test}
 use Rattle.sense.proofs.Faulted.{faulted, fault_if_is}
 use Rattle.sense.proofs.Least.{least_append}
 use Rattle.sense.proofs.Names.{first_used, mixed_used, first_append, mixed_append, mixed_differ, negatives_append, test_used_is, negatives_used, names_are}

@@ -1,6 +1,6 @@
 -- A whole text's draft, piece by piece. Assumes nothing.
-use Rattle.std.specs.Prelude.{◌≡◌, ℕ, List, [], ◌∷◌}
-use Rattle.grammar.specs.Syntax.{Written, Cond, Clause, Word, Part, Syntax}
+use Rattle.std.specs.Prelude.{List, [], ◌∷◌}
+use Rattle.grammar.specs.Syntax.{Cond, Clause, Word, Part, Syntax}
 use Rattle.grammar.specs.Syntax.Clause.{same_key, condition}
 use Rattle.grammar.specs.Syntax.Cond.{test, both, either}
 use Rattle.sense.specs.Drafted.{no_draft, part_begun, kind_added, part_ended, parts_ended, with_clauses, key_asked, clause_begun, clause_ended, joined, test_added, window_set}

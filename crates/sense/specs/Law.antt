@@ -1,6 +1,6 @@
 -- The law of sense: a draft has the first of all faults, and where there is none the text keeps the limits and the draft holds its meaning.
 -- Assumes nothing.
-use Rattle.std.specs.Prelude.{◌≡◌, ℕ, ◌<◌, ◌≤◌, List, [], length, Some, None}
+use Rattle.std.specs.Prelude.{◌≡◌, ◌<◌, ◌≤◌, length, Some, None}
 use Rattle.grammar.specs.Syntax.{Syntax}
 use Rattle.sense.specs.Drafted.{blank}
 use Rattle.sense.specs.Drafting.{drafted}

@@ -1,5 +1,5 @@
 -- What a query means: its parts, its clauses, with parts in the place of variables, and its window. Assumes nothing.
-use Rattle.std.specs.Prelude.{◌≡◌, ℕ, zero, suc, ◌+◌, ◌-◌, Bool, true, false, ◌||◌, List, [], ◌∷◌, ◌++◌, map, length, replicate, Some, None, Option, ◌==◌}
+use Rattle.std.specs.Prelude.{ℕ, ◌+◌, ◌-◌, Bool, true, false, ◌||◌, List, [], ◌∷◌, ◌++◌, map, length, replicate, Some, None, Option, ◌==◌}
 use Rattle.events.specs.Kind.{kind_named}
 use Rattle.grammar.specs.Syntax.{Written, Cond, Clause, Word, Syntax}
 use Rattle.grammar.specs.Syntax as syntax

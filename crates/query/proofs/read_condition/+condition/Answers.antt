@@ -1,4 +1,4 @@
-use Rattle.std.proofs.Common.{◌≡◌, ℕ, ◌-◌, ◌<◌, true, length, sym, ap, ◌∙◌, arith, rules}
+use Rattle.std.proofs.Common.{◌≡◌, ◌<◌, true, length, sym, ap, ◌∙◌, arith}
 use Rattle.grammar.specs.Known.{is_mark, is_word}
 use Rattle.grammar.specs.Reading.{Read, then, giving, more}
 use Rattle.letters.specs.Tokens.{tokens_of, seen, placed}

@@ -1,11 +1,8 @@
-use Rattle.std.proofs.Common.{◌≡◌, length, Ok, sym, refl, ap, ◌∙◌}
+use Rattle.std.proofs.Common.{length, Ok, sym, refl, ap, ◌∙◌}
 use Rattle.grammar.specs.Reading.{query_at}
-use Rattle.grammar.specs.Syntax.{Syntax}
 use Rattle.query.proofs.Answering.{bad_letters, bad_grammar, bad_sense, good, drafted_fault, drafted_syntax, from_text, language_law}
 use Rattle.query.proofs.reader.read.Goals as goal
 use Rattle.query.specs.Answer.{text_tokens}
-use Rattle.query.specs.Judged.{DraftedFrom}
-use Rattle.sense.specs.Drafting.{drafted}
 use Rattle.std.proofs.lemmas.Result.{err_from_is_err_and}
 
 pub returns-in_err-check_letters : goal.returns-in_err-check_letters

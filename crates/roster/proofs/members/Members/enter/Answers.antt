@@ -1,5 +1,5 @@
 use Rattle.std.proofs.Common.{◌≡◌, ℕ, ◌+◌, List, length, None, sym, ap, ◌∙◌, subst}
-use Rattle.roster.specs.Entries.{Entry, name_identity}
+use Rattle.roster.specs.Entries.{Entry}
 use Rattle.roster.specs.Tree.{members_in, member_at, line_of, Ordered, placed}
 use Rattle.roster.proofs.Places.{length_placed, ordered_placed}
 use Rattle.roster.proofs.Standing.{stands_again, stands_more}

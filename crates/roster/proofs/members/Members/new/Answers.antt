@@ -1,7 +1,6 @@
-use Rattle.std.proofs.Common.{refl}
 use Rattle.std.specs.List.Sorted.{IsStrictlySortedBy}
 use Rattle.roster.proofs.members.Members.new.Goals as goal
 
-pub invariant_of-result : goal.invariant_of-result
+pub invariant_of-result-clause-ordered : goal.invariant_of-result-clause-ordered
 unfolding IsStrictlySortedBy
-invariant_of-result c = record { ordered = tt; counted = refl }
+invariant_of-result-clause-ordered c = tt
