@@ -1,6 +1,6 @@
 // What a token is to the grammar.
 ghost use Rattle.std.specs.Prelude.{◌≡◌};
-ghost use Rattle.grammar.specs.Known.{rank as rank-of, is_mark, is_word, variable_of, reading_of, kind_of, number_of, comparison_of};
+ghost use Rattle.grammar.specs.Known.{rank as rank_of, is_mark, is_word, variable_of, reading_of, kind_of, number_of, comparison_of};
 ghost use Rattle.letters.specs.Tokens.{seen};
 ghost use Rattle.std.specs.Option.{option_map};
 
@@ -30,7 +30,7 @@ pub(crate) fn variable_of(token: Token) -> Option<u8>
 
 // Words of one class have one rank, whatever they hold.
 fn rank(class: Class) -> u8
-    ensures { result ≡ rank-of class }
+    ensures { result ≡ rank_of class }
 {
     match class {
         Class::Event => 0,
