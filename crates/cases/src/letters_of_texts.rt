@@ -1,71 +1,57 @@
 // The letters of query texts.
 use letters::{Class, Symbol, Token, check_letters, class_of, next_token, number_value};
 
-// A text, and the number and place of its fault; 0 where it has none.
-const TEXTS: [(&[u8], u8, usize); 22] = [
-    (b"", 0, 0),
-    (b" \t\r\n", 0, 0),
-    (b"EVENT SEQ(JUMP x) WITHIN 5 #", 1, 27),
+// A text, and the number and place of its fault, if it has one.
+const TEXTS: [(&[u8], Option<(u8, usize)>); 22] = [
+    (b"", None),
+    (b" \t\r\n", None),
+    (b"EVENT SEQ(JUMP x) WITHIN 5 #", Some((1, 27))),
     (
         b"EVENT SEQ(!(BADGEOUT n), START y) WHERE [key] WITHIN 600",
-        0,
-        0,
+        None,
     ),
-    (b"x.r0 + y.r0 != 5 <= >= < > = ! -", 0, 0),
-    (b"a_b", 1, 1),
-    (b"\x0b", 1, 0),
-    (b"x \xc3\xa9", 1, 2),
-    (b"\xef\xbb\xbfEVENT", 1, 0),
-    (b"5x 12ab r0AND", 0, 0),
-    (b"2147483647", 0, 0),
-    (b"2147483648", 2, 0),
-    (b"00000000000000000000000000000000000000002147483647", 0, 0),
-    (b"1 99999999999999999999999999999999 #", 2, 2),
-    (b"# 99999999999999999999999999999999", 1, 0),
-    (b"-2147483648", 2, 1),
-    (b"\x00", 1, 0),
-    (b"a\x0c", 1, 1),
-    (b"/", 1, 0),
-    (b":", 1, 0),
-    (b"@", 1, 0),
-    (b"`{", 1, 0),
+    (b"x.r0 + y.r0 != 5 <= >= < > = ! -", None),
+    (b"a_b", Some((1, 1))),
+    (b"\x0b", Some((1, 0))),
+    (b"x \xc3\xa9", Some((1, 2))),
+    (b"\xef\xbb\xbfEVENT", Some((1, 0))),
+    (b"5x 12ab r0AND", None),
+    (b"2147483647", None),
+    (b"2147483648", Some((2, 0))),
+    (b"00000000000000000000000000000000000000002147483647", None),
+    (b"1 99999999999999999999999999999999 #", Some((2, 2))),
+    (b"# 99999999999999999999999999999999", Some((1, 0))),
+    (b"-2147483648", Some((2, 1))),
+    (b"\x00", Some((1, 0))),
+    (b"a\x0c", Some((1, 1))),
+    (b"/", Some((1, 0))),
+    (b":", Some((1, 0))),
+    (b"@", Some((1, 0))),
+    (b"`{", Some((1, 0))),
 ];
+
+fn fault_of(text: &[u8]) -> Option<(u8, usize)> {
+    let fault = check_letters(text).err()?;
+    Some((fault.number(), fault.place()))
+}
 
 #[test]
 fn texts_have_their_first_fault(rt: HostRuntime) {
-    for (text, number, place) in TEXTS {
-        match check_letters(text) {
-            Ok(()) => assert_eq!(rt; number, 0),
-            Err(fault) => {
-                assert_eq!(rt; fault.number(), number);
-                assert_eq!(rt; fault.place(), place);
-            }
-        }
+    for (text, expected) in TEXTS {
+        assert_eq!(rt; fault_of(text), expected);
     }
 }
 
 #[test]
 fn length_comes_first(rt: HostRuntime) {
     let spaces = [b' '; 4097];
-    assert!(rt; check_letters(&spaces[0..4096]).is_ok());
+    assert_eq!(rt; fault_of(&spaces[0..4096]), None);
     let mut last = [b' '; 4096];
     last[4095] = b'#';
-    match check_letters(&last) {
-        Ok(()) => assert!(rt; false),
-        Err(fault) => {
-            assert_eq!(rt; fault.number(), 1);
-            assert_eq!(rt; fault.place(), 4095);
-        }
-    }
+    assert_eq!(rt; fault_of(&last), Some((1, 4095)));
     let stray = [b'#'; 4097];
     for text in [&spaces, &stray] {
-        match check_letters(text) {
-            Ok(()) => assert!(rt; false),
-            Err(fault) => {
-                assert_eq!(rt; fault.number(), 3);
-                assert_eq!(rt; fault.place(), 4096);
-            }
-        }
+        assert_eq!(rt; fault_of(text), Some((3, 4096)));
     }
 }
 

@@ -1,53 +1,47 @@
 // Names.
 use keys::{Key, Name};
+use refusals::Refusal;
 use std::test::Fail;
 
-// The number of the refusal, or 0 where there is a name.
-fn refused(points: &[u32]) -> u8 {
-    match Name::new(points) {
-        Ok(_) => 0,
-        Err(refusal) => refusal.number(),
-    }
-}
-
-fn refused_text(text: &str) -> u8 {
-    match Name::from_text(text) {
-        Ok(_) => 0,
-        Err(refusal) => refusal.number(),
-    }
+// The number of the refusal, where there is no name.
+fn refused(made: Result<Name, Refusal>) -> Option<u8> {
+    made.err().map(|refusal| refusal.number())
 }
 
 // A name of one code point, and the refusal's number.
-const POINTS: [(u32, u8); 9] = [
-    (0, 0),
-    (0x41, 0),
-    (0xD7FF, 0),
-    (0xD800, 23),
-    (0xDFFF, 23),
-    (0xE000, 0),
-    (0x10_FFFF, 0),
-    (0x11_0000, 23),
-    (0xFFFF_FFFF, 23),
+const POINTS: [(u32, Option<u8>); 9] = [
+    (0, None),
+    (0x41, None),
+    (0xD7FF, None),
+    (0xD800, Some(23)),
+    (0xDFFF, Some(23)),
+    (0xE000, None),
+    (0x10_FFFF, None),
+    (0x11_0000, Some(23)),
+    (0xFFFF_FFFF, Some(23)),
 ];
 
 #[test]
 fn code_points_are_allowed_or_refused(rt: HostRuntime) {
     for (point, expected) in POINTS {
-        assert_eq!(rt; refused(&[point]), expected);
-        assert_eq!(rt; refused(&[0x41, point, 0x42]), expected);
+        assert_eq!(rt; refused(Name::new(&[point])), expected);
+        assert_eq!(rt; refused(Name::new(&[0x41, point, 0x42])), expected);
     }
 }
 
 #[test]
 fn lengths_come_first(rt: HostRuntime) {
-    assert_eq!(rt; refused(&[]), 22);
-    assert_eq!(rt; refused(&[0xE9; 24]), 0);
-    assert_eq!(rt; refused(&[0xE9; 25]), 22);
-    assert_eq!(rt; refused(&[0xD800; 24]), 23);
-    assert_eq!(rt; refused(&[0xD800; 25]), 22);
-    assert_eq!(rt; refused_text(""), 22);
-    assert_eq!(rt; refused_text("éééééééééééééééééééééééé"), 0);
-    assert_eq!(rt; refused_text("ééééééééééééééééééééééééé"), 22);
+    assert_eq!(rt; refused(Name::new(&[])), Some(22));
+    assert_eq!(rt; refused(Name::new(&[0xE9; 24])), None);
+    assert_eq!(rt; refused(Name::new(&[0xE9; 25])), Some(22));
+    assert_eq!(rt; refused(Name::new(&[0xD800; 24])), Some(23));
+    assert_eq!(rt; refused(Name::new(&[0xD800; 25])), Some(22));
+    assert_eq!(rt; refused(Name::from_text("")), Some(22));
+    assert_eq!(rt; refused(Name::from_text("éééééééééééééééééééééééé")), None);
+    assert_eq!(rt;
+        refused(Name::from_text("ééééééééééééééééééééééééé")),
+        Some(22)
+    );
 }
 
 // Two texts, and whether they are one name.

@@ -5,14 +5,11 @@
 use anyhow::Context;
 use keys::{Key, Name};
 use std::alloc::Global;
+use std::collections::BTreeMap;
 use std::fs;
 
-// A letter, and what Unicode takes it apart into.
-#[derive(Clone, Copy)]
-struct Published {
-    whole: u32,
-    parts: [u32; 2],
-}
+// The letters that Unicode takes apart, each with its two parts.
+type Published = BTreeMap<u32, [u32; 2]>;
 
 // How a code point as a name compares with what was published for it.
 #[derive(Drop)]
@@ -50,9 +47,9 @@ fn compare(rt: &HostRuntime) -> anyhow::Result<()> {
 }
 
 // One code point as a name.
-fn judge(published: &[Published], point: u32) -> Found {
-    match find(published, point) {
-        Some(letter) => matched(point, &letter.parts),
+fn judge(published: &Published, point: u32) -> Found {
+    match published.get(&point) {
+        Some(parts) => matched(point, parts),
         None => matched(point, &[point]),
     }
 }
@@ -72,33 +69,20 @@ fn matched(point: u32, parts: &[u32]) -> Found {
     }
 }
 
-fn find(published: &[Published], point: u32) -> Option<Published> {
-    for p in published {
-        if p.whole == point {
-            return Some(*p);
-        }
-    }
-    None
-}
-
-fn parse_all(heap: Global, text: &str) -> anyhow::Result<Vec<Published>> {
-    let mut published = Vec::new(heap);
-    for line in text.lines() {
-        if !line.starts_with('#') {
-            published.push(parse(line)?)?;
-        }
+fn parse_all(heap: Global, text: &str) -> anyhow::Result<Published> {
+    let mut published = BTreeMap::new(heap);
+    for line in text.lines().filter(|line| !line.starts_with('#')) {
+        let (whole, parts) = parse(line)?;
+        published.insert(whole, parts)?;
     }
     Ok(published)
 }
 
 // 00C0;0041 0300
-fn parse(line: &str) -> anyhow::Result<Published> {
+fn parse(line: &str) -> anyhow::Result<(u32, [u32; 2])> {
     let (whole, parts) = line.split_once(';').context("no semicolon")?;
     let (base, mark) = parts.split_once(' ').context("not two parts")?;
-    Ok(Published {
-        whole: hex(whole)?,
-        parts: [hex(base)?, hex(mark)?],
-    })
+    Ok((hex(whole)?, [hex(base)?, hex(mark)?]))
 }
 
 fn hex(digits: &str) -> anyhow::Result<u32> {

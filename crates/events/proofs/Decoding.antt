@@ -1,29 +1,29 @@
 -- Encoding and decoding a record. Assumes nothing.
+use Rattle.std.proofs.lemmas.Bool.Decides.{nat_tests}
 use Rattle.std.proofs.Common.{◌≡◌, ℕ, zero, suc, ◌+◌, ◌-◌, ◌*◌, ◌/◌, ◌%◌, ◌^◌, ◌<◌, ◌≤◌, leb, List, [], ◌∷◌, ◌++◌, map, length, get_or, take, drop, replicate, ℤ, pos, negsuc, Ok, Err, Result, sym, refl, ap, ◌∙◌, subst, ⊎_elim, add_assoc, mod-eq_of_lt, mul_assoc, add-mul, arith, length-drop, take-append-drop, length-take, pow-add, w32, to_z}
 use lib.ListN.{length-map}
 use lib.Pow.{mod-mod-pow}
 use Rattle.events.proofs.Packing.{packed_below, unpacked_packed, packed_unpacked, unpacked_fits, packed_append, width_append}
-use Rattle.events.specs.Bits.{width, packed, unpacked, Fitting, eights}
+use Rattle.events.specs.Bits.{width, packed, unpacked, Fitting, eights, number_of}
 use Rattle.events.specs.Record.{Fields, widths, signed_32, bits_32, fields_from, values_of, values_in, decoded, encoded, Record, Reading, Recordable, Inverse}
 use Rattle.std.proofs.lemmas.Nat.{div-mul-add, mod-mul-add, field_of, shr-shr, mod-pow-add}
 use Rattle.std.proofs.ByRecursion.{All-take, All-drop, All-from_get_or}
-use Rattle.std.proofs.lemmas.List.{map-append, drop_more}
+use Rattle.std.proofs.lemmas.List.{map-append}
 use Rattle.std.proofs.lemmas.Int.{ints, to_z_pos, to_z-of_z}
-use Rattle.std.proofs.lemmas.Bool.{cond-true, cond-false, cond_both, lt-ltb, le-ltb, cases_lt}
+use Rattle.std.proofs.lemmas.Bool.{cond-false, cond_both, le-ltb, cases_lt}
 use Rattle.keys.specs.Badge.{badge_answer}
 use Rattle.refusals.specs.declared.Refusal.{Refusal}
 use Rattle.refusals.specs.declared.Refusal.TheVariants.{Badge}
 use Rattle.std.specs.List.{AllByRecursion}
 
 signed_low : (n : ℕ) → n < 2 ^ 31 → signed_32 n ≡ pos n
-signed_low n h = cond-true _ _ _ (lt-ltb n (2 ^ 31) h)
+signed_low n h = grind (arith, nat_tests)
 
 signed_high : (n : ℕ) → 2 ^ 31 ≤ n → n < 2 ^ 32 → signed_32 n ≡ negsuc (2 ^ 32 - 1 - n)
 signed_high n l h = cond-false _ _ _ (le-ltb n (2 ^ 31) l) ∙ omega (arith, ints)
 
 bits_signed : (n : ℕ) → n < 2 ^ 32 → bits_32 (signed_32 n) ≡ n
-bits_signed n h =
-    ⊎_elim (λ (l : n < 2 ^ 31). ap bits_32 (signed_low n l)) (λ (g : 2 ^ 31 ≤ n). ap bits_32 (signed_high n g h) ∙ omega arith) (cases_lt n (2 ^ 31))
+bits_signed n h = grind (arith, signed_low n, signed_high n)
 
 signed_bits : (z : ℤ) → Reading z → signed_32 (bits_32 z) ≡ z
 signed_bits (pos n) h = signed_low n h
@@ -142,12 +142,18 @@ word_is bytes at r h =
 
 -- four bytes of a record from `at` on, as one number
 abbrev word_at : List ℕ → ℕ → ℕ
-word_at bytes at = packed (eights (take 4 (drop at bytes))) (take 4 (drop at bytes))
+word_at bytes at = number_of (take 4 (drop at bytes))
+
+record_from : (bytes : List ℕ) → length bytes ≡ 24 → ((i : ℕ) → get_or bytes i 0 < 2 ^ 8) → Record bytes
+record_from bytes long small = (long, All-from_get_or (λ b. b < 2 ^ 8) bytes 0 (λ i h. small i))
 
 -- the fields by the words that they stand in
-module _ (bytes : List ℕ) (r : Record bytes) where
+module _ (bytes : List ℕ) (long : length bytes ≡ 24) (small : (i : ℕ) → get_or bytes i 0 < 2 ^ 8) where
   abbrev n : ℕ
-  n = packed (eights bytes) bytes
+  n = number_of bytes
+
+  r : Record bytes
+  r = record_from bytes long small
 
   high : word_at bytes 0 ≡ n / 2 ^ 160 % 2 ^ 32
   high = word_is bytes 0 r (omega arith)
@@ -177,24 +183,6 @@ module _ (bytes : List ℕ) (r : Record bytes) where
   reading_is (suc (suc zero)) h = word_is bytes 16 r (omega arith)
   reading_is (suc (suc (suc zero))) h = word_is bytes 20 r (omega arith)
   reading_is (suc (suc (suc (suc i)))) h = absurd (omega (arith, h))
-
--- a byte after the other
-next_byte : (bytes : List ℕ) (n at : ℕ) → at < length bytes → take (suc n) (drop at bytes) ≡ get_or bytes at 0 ∷ take n (drop (at + 1) bytes)
-next_byte bytes n at h = ap (take (suc n)) (drop_more bytes at 0 h)
-
-pub four_bytes : (bytes : List ℕ) (at : ℕ) → at + 4 ≤ length bytes →
-    take 4 (drop at bytes) ≡ get_or bytes at 0 ∷ get_or bytes (at + 1) 0 ∷ get_or bytes (at + 2) 0 ∷ get_or bytes (at + 3) 0 ∷ []
-four_bytes bytes at h =
-    let b = get_or bytes in
-    let two : at + 1 + 1 ≡ at + 2 = omega arith in
-    let three : at + 2 + 1 ≡ at + 3 = omega arith in
-    next_byte bytes 3 at (omega arith) ∙
-    ap (λ (l : List ℕ). b at 0 ∷ l) (next_byte bytes 2 (at + 1) (omega arith) ∙
-    ap (λ (l : List ℕ). b (at + 1) 0 ∷ l) (ap (λ (k : ℕ). take 2 (drop k bytes)) two ∙ next_byte bytes 1 (at + 2) (omega arith) ∙
-    ap (λ (l : List ℕ). b (at + 2) 0 ∷ l) (ap (λ (k : ℕ). take 1 (drop k bytes)) three ∙ next_byte bytes 0 (at + 3) (omega arith))))
-
-pub record_from : (bytes : List ℕ) → length bytes ≡ 24 → ((i : ℕ) → get_or bytes i 0 < 2 ^ 8) → Record bytes
-record_from bytes long small = (long, All-from_get_or (λ b. b < 2 ^ 8) bytes 0 (λ i h. small i))
 
 -- how the code casts
 pub cast_is : (n : ℕ) → n < 2 ^ 32 → to_z w32 n ≡ signed_32 n

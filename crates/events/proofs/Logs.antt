@@ -1,4 +1,5 @@
 -- Logs and their readings. Assumes nothing.
+use Rattle.std.proofs.lemmas.Bool.Decides.{nat_tests}
 use Rattle.std.proofs.Common.{◌≡◌, ℕ, zero, suc, ◌-◌, ◌*◌, ◌<◌, ◌≤◌, List, [], ◌∷◌, ◌++◌, map, length, take, drop, Some, None, Ok, Err, Option, sym, refl, ap, ◌∙◌, subst, ⊎_elim, append_assoc, arith, length-append, length-drop, take-append-drop}
 use Rattle.events.specs.Record.{decoded}
 use Rattle.events.specs.Log.{Item, Told, told, first, items_of, reading, log_of, unread, reads, ReadsAs, WholeLog}
@@ -6,7 +7,8 @@ use Rattle.events.specs.Log.ReadsAs.{ended, tail, next}
 use Rattle.events.specs.declared.log.Records.{Records}
 use Rattle.refusals.specs.declared.Refusal.TheVariants.{Tail}
 use Rattle.std.proofs.lemmas.List.{drop_all, take_at, drop_at, nil_from_length, length-take-le}
-use Rattle.std.proofs.lemmas.Bool.{cond-true, cond-false, eq-eqb, ne_eqb, lt-ltb, le-ltb, cases_lt, cases_eq}
+use Rattle.std.proofs.lemmas.Option.{same_Some, none-some}
+use Rattle.std.proofs.lemmas.Bool.{cond-true, cond-false, eq-eqb, ne_eqb, cases_lt, cases_eq}
 use Rattle.std.specs.Iterator.{Yields}
 
 reading_none : (n : ℕ) → reading n [] ≡ []
@@ -14,12 +16,10 @@ reading_none zero = refl
 reading_none (suc n) = refl
 
 first_tail : (log : List ℕ) → 1 ≤ length log → length log < 24 → first log ≡ Some (Err Tail)
-first_tail log some short =
-    cond-false _ _ _ (ne_eqb (length log) 0 (λ e. omega arith)) ∙ ap (λ (t : Told). Some t) (cond-true _ _ _ (lt-ltb (length log) 24 short))
+first_tail log some short = grind (arith, nat_tests)
 
 first_record : (log : List ℕ) → 24 ≤ length log → first log ≡ Some (Ok (decoded (take 24 log)))
-first_record log long =
-    cond-false _ _ _ (ne_eqb (length log) 0 (λ e. omega arith)) ∙ ap (λ (t : Told). Some t) (cond-false _ _ _ (le-ltb (length log) 24 long))
+first_record log long = grind (arith, nat_tests)
 
 is_reading : (log : List ℕ) (xs : List Told) → ReadsAs log xs → (n : ℕ) → length log ≤ n → xs ≡ reading n log
 is_reading log xs ended zero h = refl
@@ -38,26 +38,20 @@ is_reading log xs (next bytes rest items whole r) (suc n) h =
 only : (log : List ℕ) (xs : List Told) → ReadsAs log xs → xs ≡ log_of log
 only log xs r = is_reading log xs r (length log) (omega arith)
 
-some_same : (t u : Told) → ◌≡◌ {A = Option Told} (Some t) (Some u) → t ≡ u
-some_same t u e = cc
-
-never : (t : Told) → ◌≡◌ {A = Option Told} (Some t) None → ⊥
-never t e = let z : ◌≡◌ {A = ℕ} 0 1 = cc in omega arith
-
 -- one more item before a reading of what is left
 one_item : (log : List ℕ) (t : Told) (items : List Told) → Some t ≡ first log → ReadsAs (drop 24 log) items → ReadsAs log (t ∷ items)
 one_item log t items e r =
     ⊎_elim
     (λ (short : length log < 24).
     ⊎_elim
-    (λ (none : length log ≡ 0). absurd (never t (e ∙ cond-true _ _ _ (eq-eqb (length log) 0 none))))
+    (λ (none : length log ≡ 0). absurd (none-some t (sym (e ∙ cond-true _ _ _ (eq-eqb (length log) 0 none)))))
     (λ (some : length log ≡ 0 → ⊥).
-    let is = some_same t (Err Tail) (e ∙ first_tail log (omega (arith, some)) short) in
+    let is = same_Some t (Err Tail) (e ∙ first_tail log (omega (arith, some)) short) in
     let nothing = only [] items (subst (λ (l : List ℕ). ReadsAs l items) (drop_all 24 log (omega arith)) r) in
     subst (λ (l : List Told). ReadsAs log l) (sym (λ i. is i ∷ nothing i)) (tail log (omega (arith, some)) (omega arith)))
     (cases_eq (length log) 0))
     (λ (long : 24 ≤ length log).
-    let is = some_same t (Ok (decoded (take 24 log))) (e ∙ first_record log long) in
+    let is = same_Some t (Ok (decoded (take 24 log))) (e ∙ first_record log long) in
     let size : length (take 24 log) ≡ 24 = length-take-le 24 log long in
     subst (λ (l : List Told). ReadsAs log l) (ap (λ (u : Told). u ∷ items) (sym is))
     (subst (λ (l : List ℕ). ReadsAs l (Ok (decoded (take 24 log)) ∷ items)) (take-append-drop 24 log) (next (take 24 log) (drop 24 log) items size r)))
@@ -66,7 +60,7 @@ one_item log t items e r =
 no_item : (log : List ℕ) → None ≡ first log → ReadsAs log []
 no_item log e =
     ⊎_elim (λ (none : length log ≡ 0). subst (λ (l : List ℕ). ReadsAs l []) (sym (nil_from_length log none)) ended)
-    (λ (some : length log ≡ 0 → ⊥). absurd (never _ (sym (e ∙ cond-false _ _ _ (ne_eqb (length log) 0 some)))))
+    (λ (some : length log ≡ 0 → ⊥). absurd (none-some _ (e ∙ cond-false _ _ _ (ne_eqb (length log) 0 some))))
     (cases_eq (length log) 0)
 
 given : (s : Records) (items : List Item) (t u : Records) → Yields reads s items t → reads t None u → ReadsAs (unread s) (map told items)

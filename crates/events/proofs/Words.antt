@@ -1,11 +1,14 @@
 -- No two kinds share a word, by one test over all words, and so a word names one kind. Assumes nothing.
-use Rattle.std.proofs.Common.{◌≡◌, ℕ, zero, suc, ◌+◌, ◌-◌, ◌<◌, ◌≤◌, true, false, cond, List, [], ◌∷◌, map, get_or, Some, None, Decides, Option, sym, refl, ap, ◌∙◌, ⊎_elim, zero-add, arith}
-use Rattle.events.specs.Kind.{words, word_of, same_word, has_word, named_from, NamedLaw, WordsDiffer}
+use Rattle.std.proofs.lemmas.Bool.Decides.{nat_tests}
+use Rattle.std.proofs.Common.{◌≡◌, ℕ, zero, suc, ◌+◌, ◌<◌, ◌≤◌, Bool, true, false, cond, List, [], ◌∷◌, map, get_or, Some, None, Decides, Option, sym, refl, ap, ◌∙◌, zero-add, arith}
+use Rattle.events.specs.Kind.{words, word_of, same_word, kind_number, has_word, kinds, kind_named, NamedLaw, WordsDiffer}
 use Rattle.std.proofs.lemmas.List.FromFn.{get_or-range_with_len}
 use Rattle.std.proofs.lemmas.Slice.Eq.{bytes_eq-Decides}
 use Rattle.std.proofs.lemmas.List.{get_or-map}
-use Rattle.std.proofs.lemmas.Bool.{both_ways, cases_Bool, cases_lt, cond-true, cond-false, lt-ltb, le-ltb}
-use Rattle.std.specs.List.{range_with_len}
+use Rattle.std.proofs.lemmas.Bool.{both_ways, cond-true, lt-ltb, ltb-true}
+use Rattle.std.proofs.lemmas.Option.{same_Some, cond_some}
+use Rattle.std.specs.List.{find, range_with_len}
+use Rattle.std.specs.Option.{option_map}
 use Rattle.std.specs.Str.{bytes_eq}
 
 -- the first place of a word in a list
@@ -24,54 +27,48 @@ own_place i h =
 word_at : (i : ℕ) → i < 16 → word_of i ≡ Some (get_or words i [])
 word_at i h = cond-true _ _ _ (lt-ltb i 16 h)
 
-some_same : (v w : List ℕ) → ◌≡◌ {A = Option (List ℕ)} (Some v) (Some w) → v ≡ w
-some_same v w e = cc
-
 pub words_differ : WordsDiffer
 words_differ i j hi hj e =
-    let same = some_same _ _ (sym (word_at i hi) ∙ e ∙ word_at j hj) in
+    let same = same_Some _ _ (sym (word_at i hi) ∙ e ∙ word_at j hj) in
     sym (own_place i hi) ∙ ap (λ (w : List ℕ). place w words) same ∙ own_place j hj
 
 same_decides : (own : Option (List ℕ)) (w : List ℕ) → Decides (same_word own w) (own ≡ Some w)
 same_decides None w = (λ t. absurd (both_ways false refl t), λ e. cc)
-same_decides (Some own) w = (λ t. cc ((bytes_eq-Decides own w).0 t), λ e. (bytes_eq-Decides own w).1 (some_same own w e))
+same_decides (Some own) w = (λ t. cc ((bytes_eq-Decides own w).0 t), λ e. (bytes_eq-Decides own w).1 (same_Some own w e))
 
 has_decides : (kind : ℕ) (w : List ℕ) → Decides (has_word kind w) (word_of kind ≡ Some w)
 has_decides kind w = same_decides (word_of kind) w
 
--- what is found has the word
-named_found : (left kind : ℕ) (w : List ℕ) (k : ℕ) → named_from left kind w ≡ Some k → word_of k ≡ Some w
-named_found zero kind w k e = cc
-named_found (suc left) kind w k e =
-    ⊎_elim
-    (λ (t : has_word kind w ≡ true).
-    let same : kind ≡ k = cc (cond-true _ (Some kind) (named_from left (kind + 1) w) t) in
-    ap word_of (sym same) ∙ (has_decides kind w).0 t)
-    (λ (f : has_word kind w ≡ false). named_found left (kind + 1) w k (sym (cond-false _ _ _ f) ∙ e)) (cases_Bool (has_word kind w))
+-- what is found passes the test
+found_passes : {X : Type 0} (test : X → Bool) (xs : List X) (x : X) → find test xs ≡ Some x → test x ≡ true
+found_passes test [] x e = cc
+found_passes test (y ∷ ys) x e = grind (arith, nat_tests, found_passes test ys x)
 
--- a kind of the range that has the word is the first that has it
-named_finds : (left kind : ℕ) (w : List ℕ) (k : ℕ) → k < 16 → word_of k ≡ Some w → kind ≤ k → k < kind + left → named_from left kind w ≡ Some k
-named_finds zero kind w k h e from to = absurd (omega arith)
-named_finds (suc left) kind w k h e from to =
-    ⊎_elim
-    (λ (t : has_word kind w ≡ true).
-    let same = words_differ kind k (omega arith) h ((has_decides kind w).0 t ∙ sym e) in
-    cond-true _ _ _ t ∙ ap (λ (i : ℕ). Some i) same)
-    (λ (f : has_word kind w ≡ false).
-    let other : kind ≡ k → ⊥ = λ same. both_ways _ f ((has_decides kind w).1 (ap word_of same ∙ e)) in
-    cond-false _ _ _ f ∙ named_finds left (kind + 1) w k h e (omega (arith, other)) (omega arith)) (cases_Bool (has_word kind w))
+-- the one number of a range that passes the test is found
+only_found : (test : ℕ → Bool) (n left k : ℕ) → n ≤ k → k < n + left → test k ≡ true → ((i : ℕ) → i < n + left → test i ≡ true → i ≡ k) → find test (range_with_len n left) ≡ Some k
+only_found test n zero k from to t only = absurd (omega arith)
+only_found test n (suc left) k from to t only =
+    let rest : n < k → find test (range_with_len (n + 1) left) ≡ Some k = λ h. only_found test (n + 1) left k (omega arith) (omega arith) t (λ i h. only i (omega arith)) in
+    grind (arith, nat_tests, rest, only n)
 
 below_16 : (k : ℕ) (w : List ℕ) → word_of k ≡ Some w → k < 16
-below_16 k w e =
-    ⊎_elim (λ (h : k < 16). h)
-    (λ (h : 16 ≤ k). let z : ◌≡◌ {A = ℕ} 0 1 = cc (cond-false _ (Some (get_or words k [])) None (le-ltb k 16 h)) in omega arith) (cases_lt k 16)
+below_16 k w e = ltb-true _ _ (cond_some _ _ _ e).0
+
+-- an element is found by the number that it has
+number_found : {X : Type 0} (number : X → ℕ) (test : ℕ → Bool) (xs : List X) → option_map number (find (λ x. test (number x)) xs) ≡ find test (map number xs)
+number_found number test [] = refl
+number_found number test (x ∷ xs) = grind (arith, nat_tests, number_found number test xs)
+
+-- the number of a kind that is found is the first that has the word
+named_is : (w : List ℕ) → kind_named w ≡ find (λ kind. has_word kind w) (range_with_len 0 16)
+named_is w = number_found kind_number (λ kind. has_word kind w) kinds
 
 pub named_law : (w : List ℕ) → NamedLaw w
 named_law w = record {
-  found = named_found 16 0 w;
-  finds = λ k e. let h = below_16 k w e in named_finds 16 0 w k h e (omega arith) (omega arith);
+  found = λ k e. (has_decides k w).0 (found_passes (λ kind. has_word kind w) (range_with_len 0 16) k (sym (named_is w) ∙ e));
+  finds = λ k e.
+      let h = below_16 k w e in
+      named_is w ∙
+      only_found (λ kind. has_word kind w) 0 16 k (omega arith) h ((has_decides k w).1 e)
+      (λ i below t. words_differ i k below h ((has_decides i w).0 t ∙ sym e));
 }
-
--- one turn of the loop over the kinds
-pub named_more : (kind : ℕ) (w : List ℕ) → kind < 16 → named_from (16 - kind) kind w ≡ cond (has_word kind w) (Some kind) (named_from (16 - (kind + 1)) (kind + 1) w)
-named_more kind w h = let one : 16 - kind ≡ suc (16 - (kind + 1)) = omega arith in ap (λ (left : ℕ). named_from left kind w) one

@@ -4,7 +4,7 @@ use Rattle.events.specs.Record.{Fields, fields, decoded}
 use Rattle.events.specs.declared.event.Event.{Event}
 use Rattle.events.specs.declared.log.Records.{Records}
 use Rattle.keys.specs.declared.badge.Badge.{Badge}
-use Rattle.refusals.specs.Answers.{answered}
+use Rattle.std.specs.Result.{result_map_both}
 use Rattle.refusals.specs.declared.Refusal.{Refusal}
 use Rattle.refusals.specs.declared.Refusal.TheVariants.{Tail}
 use Rattle.std.specs.Iterator.{Drains}
@@ -18,7 +18,7 @@ abbrev pub Told : Type 0
 Told = Result Fields Refusal
 
 abbrev pub told : Item → Told
-told item = answered fields item
+told item = result_map_both fields (λ r. r) item
 
 -- A log is a row of records of 24 bytes, and perhaps a tail of 1 to 23 bytes, which is refused.
 pub data ReadsAs : List ℕ → List Told → Type 0 where

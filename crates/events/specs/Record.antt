@@ -14,7 +14,7 @@ pub record Fields : Type 0 where
   pub readings : List ℤ
 
 abbrev pub fields : Event Badge → Fields
-fields e = record { kind = e.kind; time = e.time; badge = e.key.number; readings = e.readings }
+fields e = record { kind = e.kind; time = e.time; badge = e.key; readings = e.readings }
 
 -- kind, time, badge, and four readings
 abbrev pub widths : List ℕ

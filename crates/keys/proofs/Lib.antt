@@ -1,4 +1,2 @@
-pub mod Alike
-pub mod Decoded
 pub mod Spelt
 pub mod Table

@@ -1,104 +1,78 @@
--- The table's rule, by one test that computes over the composed table, and what it gives for a search. Assumes nothing.
-use Rattle.std.specs.Prelude.{◌≡◌, ℕ, zero, suc, ◌+◌, ◌<◌, ◌≤◌, Bool, true, false, not, ◌&&◌, List, [], ◌∷◌, length, get_or, is_some, Some, None, Option, ◌≢◌, nat_lt, slice_index_or, refl}
-use Rattle.std.proofs.Common.{sym, subst, ◌∙◌, ⊎_elim, le_of_suc-le-suc, not-suc-le-zero, arith}
-use Rattle.keys.specs.Letters.{table, letter, found, Ascending, Closed}
+-- The table's rule, by tests that compute over the table, and what it gives for a search. Assumes nothing.
+use Rattle.std.proofs.Common.{◌≡◌, ℕ, zero, suc, ◌<◌, ◌≤◌, Bool, true, not, ◌&&◌, List, [], ◌∷◌, length, get_or, is_some, Some, None, Option, Result, Ok, Err, MatchOption, ◌==◌, ◌≢◌, slice_index_or, refl, ap, sym, ◌∙◌, ⊎_elim, arith}
+use Rattle.keys.specs.Letters.{table, letter, found, rises, Ascending, Closed}
 use Rattle.keys.specs.declared.letters.Letter.{Letter}
-use Rattle.std.proofs.lemmas.Bool.{and_parts, ltb-true, ne_eqb, eq-eqb, cond-true, cond-false, both_ways, cases_lt, cases_eq}
+use Rattle.std.specs.List.{list_all, slice_get}
+use Rattle.std.specs.List.Sorted.{IsSearchInRange, IsBinarySearchResult, IsNonDecreasingBy}
+use Rattle.std.specs.Result.{result_ok}
+use Rattle.std.specs.Ordering.{nat_cmp, ordering_index}
+use Rattle.std.proofs.lemmas.Bool.{and_parts, ltb-true, ne_eqb, eq-eqb, cases_lt}
+use Rattle.std.proofs.lemmas.Bool.Decides.{nat_tests}
+use Rattle.std.proofs.lemmas.Cmp.{ranked}
+use Rattle.std.proofs.lemmas.List.Folds.{find_at}
+use Rattle.std.proofs.lemmas.List.Sorted.{IsNonDecreasingBy-from_default}
+use Rattle.std.proofs.lemmas.List.Sums.{AllPass-from_list_all, position_or_len_is}
+use Rattle.std.proofs.lemmas.Option.{slice_get-get_or, slice_get_past}
 
--- each letter is above the one before it, and the first above n
-abbrev above : ℕ → List Letter → Bool
-above n [] = true
-above n (l ∷ ls) = nat_lt n l.composed && above l.composed ls
+pub rises_ascending : (ls : List Letter) → rises ls ≡ true → Ascending ls
+rises_ascending [] t i j d less h = absurd (omega arith)
+rises_ascending (l ∷ ls) t i zero d less h = absurd (omega arith)
+rises_ascending (l ∷ ls) t zero (suc j) d less h = ltb-true _ _ (AllPass-from_list_all _ ls (and_parts _ _ t).0 j d (omega arith))
+rises_ascending (l ∷ ls) t (suc i) (suc j) d less h = rises_ascending ls (and_parts _ _ t).1 i j d (omega arith) (omega arith)
 
-above_all : (n : ℕ) (ls : List Letter) → above n ls ≡ true → (k : ℕ) (d : Letter) → k < length ls → n < (get_or ls k d).composed
-above_all n [] t k d h = absurd (not-suc-le-zero h)
-above_all n (l ∷ ls) t zero d h = ltb-true n l.composed (and_parts _ _ t).0
-above_all n (l ∷ ls) t (suc k) d h =
-    let p = and_parts _ _ t in
-    let first = ltb-true n l.composed p.0 in
-    let rest = above_all l.composed ls p.1 k d (le_of_suc-le-suc h) in
-    omega arith
-
-rises_above : (n : ℕ) (ls : List Letter) → above n ls ≡ true → Ascending ls
-rises_above n [] t i j d less h = absurd (not-suc-le-zero h)
-rises_above n (l ∷ ls) t i zero d less h = absurd (not-suc-le-zero less)
-rises_above n (l ∷ ls) t zero (suc j) d less h = above_all l.composed ls (and_parts _ _ t).1 j d (le_of_suc-le-suc h)
-rises_above n (l ∷ ls) t (suc i) (suc j) d less h =
-    rises_above l.composed ls (and_parts _ _ t).1 i j d (le_of_suc-le-suc less) (le_of_suc-le-suc h)
-
-none : (o : Option Letter) → not (is_some o) ≡ true → o ≡ None
-none None t = refl
-none (Some l) t = absurd (both_ways false refl t)
-
--- neither base nor mark of any of the letters is in the table `all`
-abbrev closed_in : List Letter → List Letter → Bool
-closed_in all [] = true
-closed_in all (l ∷ ls) = (not (is_some (found all l.base)) && not (is_some (found all l.mark))) && closed_in all ls
-
-closed_all : (all ls : List Letter) → closed_in all ls ≡ true → (k : ℕ) (d : Letter) → k < length ls → (found all (get_or ls k d).base ≡ None) × (found all (get_or ls k d).mark ≡ None)
-closed_all all [] t k d h = absurd (not-suc-le-zero h)
-closed_all all (l ∷ ls) t zero d h = let p = and_parts _ _ (and_parts _ _ t).0 in (none _ p.0, none _ p.1)
-closed_all all (l ∷ ls) t (suc k) d h = closed_all all ls (and_parts _ _ t).1 k d (le_of_suc-le-suc h)
-
--- the test of the composed table
-sound : List Letter → Bool
-sound ls = above 0 ls && closed_in ls ls
-
-passes : sound table ≡ true
-unfolding table sound
-passes = refl
+passes_rises : rises table ≡ true
+unfolding table
+passes_rises = refl
 
 pub table_rises : Ascending table
-unfolding sound
-table_rises = rises_above 0 table (and_parts _ _ passes).0
+table_rises = rises_ascending table passes_rises
+
+absent : (o : Option Letter) → not (is_some o) ≡ true → o ≡ None
+absent o t = grind arith
+
+-- whether neither base nor mark of l is a letter of the table
+closed : Letter → Bool
+closed l = not (is_some (found table l.base)) && not (is_some (found table l.mark))
+
+passes_closed : list_all closed table ≡ true
+unfolding table closed
+passes_closed = refl
 
 pub table_closed : Closed table
-unfolding sound
-table_closed = closed_all table table (and_parts _ _ passes).1
+unfolding closed
+table_closed i d h = let p = and_parts _ _ (AllPass-from_list_all closed table passes_closed i d h) in (absent _ p.0, absent _ p.1)
+
+-- where no entry before k is for c, and the one at k, if there is one, is, that one is found
+found_first : (ls : List Letter) (c k : ℕ) (d : Letter) → k ≤ length ls → ((j : ℕ) → j < k → (get_or ls j d).composed ≢ c) →
+    (k < length ls → (get_or ls k d).composed ≡ c) → found ls c ≡ slice_get ls k
+found_first ls c k d within before here =
+    find_at (λ l. l.composed == c) ls ∙
+    ap (slice_get ls) (position_or_len_is (λ l. l.composed == c) ls k d within (λ j h. ne_eqb _ _ (before j h)) (λ h. eq-eqb _ _ (here h)))
 
 -- where the letters ascend, an entry is the only one for its letter
 pub found_at : (ls : List Letter) (d : Letter) → Ascending ls → (k : ℕ) → k < length ls → found ls (get_or ls k d).composed ≡ Some (slice_index_or ls k d)
-found_at [] d r k h = absurd (not-suc-le-zero h)
-found_at (l ∷ ls) d r zero h = cond-true _ _ _ (eq-eqb l.composed l.composed refl)
-found_at (l ∷ ls) d r (suc k) h =
-    let less : l.composed < (get_or ls k d).composed = r 0 (suc k) d (omega arith) h in
-    cond-false _ _ _ (ne_eqb l.composed (get_or ls k d).composed (λ e. omega arith)) ∙
-    found_at ls d (λ i j e p q. r (suc i) (suc j) e (omega arith) (omega arith)) k (le_of_suc-le-suc h)
+found_at ls d ascends k h =
+    found_first ls (get_or ls k d).composed k d (omega arith) (λ j less e. omega (arith, ascends j k d less h)) (λ _. refl) ∙ slice_get-get_or ls k d h
 
--- where no entry is for c, none is found
-pub found_none : (ls : List Letter) (d : Letter) (c : ℕ) → ((k : ℕ) → k < length ls → (get_or ls k d).composed ≢ c) → found ls c ≡ None
-found_none [] d c no_one = refl
-found_none (l ∷ ls) d c no_one =
-    cond-false _ _ _ (ne_eqb l.composed c (no_one 0 (omega arith))) ∙
-    found_none ls d c (λ k h. no_one (suc k) (omega arith))
+module _ (ls : List Letter) (ascends : Ascending ls) (c : ℕ) where
+  -- the comparisons with c rise along the list, as a search by halves asks
+  comparisons_rise : IsNonDecreasingBy (λ l. ordering_index (nat_cmp l.composed c)) ls
+  comparisons_rise = IsNonDecreasingBy-from_default (λ l. ordering_index (nat_cmp l.composed c)) ls (letter 0 0 0) (λ i j le h.
+      let rise : (get_or ls i (letter 0 0 0)).composed ≤ (get_or ls j (letter 0 0 0)).composed =
+      grind (arith, ascends i j (letter 0 0 0), λ (same : i ≡ j). ap (λ (k : ℕ). (get_or ls k (letter 0 0 0)).composed) same) in
+      grind (arith, nat_tests))
 
--- For a search by halves: the letter at a place of the table.
-abbrev at : ℕ → ℕ
-at k = (get_or table k (letter 0 0 0)).composed
-
-at_rises : (i j : ℕ) → i < j → j < 53 → at i < at j
-unfolding table
-at_rises i j less h = table_rises i j (letter 0 0 0) less h
-
--- where the letter at m is before c, so are all up to it
-pub before_more : (c m : ℕ) → m < 53 → at m < c → (k : ℕ) → k < m + 1 → at k < c
-before_more c m h less k within =
-    ⊎_elim (λ (same : k ≡ m). subst (λ (i : ℕ). at i < c) (sym same) less)
-    (λ (other : k ≡ m → ⊥). let low : k < m = omega (arith, other) in let rise = at_rises k m low h in omega arith) (cases_eq k m)
-
--- where the letter at m is after c, so are all from it on
-pub after_more : (c m : ℕ) → c < at m → (k : ℕ) → m ≤ k → k < 53 → c < at k
-after_more c m less k from h =
-    ⊎_elim (λ (same : k ≡ m). subst (λ (i : ℕ). c < at i) (sym same) less)
-    (λ (other : k ≡ m → ⊥). let high : m < k = omega (arith, other) in let rise = at_rises m k high h in omega arith) (cases_eq k m)
-
-pub found_here : (c m : ℕ) → m < 53 → at m ≡ c → found table c ≡ Some (slice_index_or table m (letter 0 0 0))
-unfolding table
-found_here c m h same = subst (λ (x : ℕ). found table x ≡ Some (slice_index_or table m (letter 0 0 0))) same (found_at table (letter 0 0 0) table_rises m h)
-
--- where all letters are before c or after it, c is none of them
-pub found_nowhere : (c low high : ℕ) → high ≤ low → ((k : ℕ) → k < low → at k < c) → ((k : ℕ) → high ≤ k → k < 53 → c < at k) → found table c ≡ None
-unfolding table
-found_nowhere c low high met before after =
-    found_none table (letter 0 0 0) c
-    (λ k h same. ⊎_elim (λ (l : k < low). let b = before k l in omega arith) (λ (g : low ≤ k). let a = after k (omega arith) h in omega arith) (cases_lt k low))
+  -- what such a search gives is what is found
+  pub searched : (r : Result ℕ ℕ) → IsSearchInRange r (length ls) → IsBinarySearchResult (λ l. nat_cmp l.composed c) ls r →
+      (o : Option ℕ) → o ≡ result_ok r → MatchOption o (found ls c ≡ None) (λ at. (d : Letter) → found ls c ≡ Some (slice_index_or ls at d))
+  searched (Ok at) within equal o is =
+      let here = λ (d : Letter). ranked (get_or ls at d).composed c _ (sym (equal d)) in
+      rw is (λ d. ap (found ls) (sym (here d)) ∙ found_at ls d ascends at within)
+  searched (Err at) within parted o is =
+      let d = letter 0 0 0 in
+      let sides = parted comparisons_rise in
+      let other : (k : ℕ) → k < length ls → (get_or ls k d).composed ≢ c =
+      λ k h e. ⊎_elim
+      (λ (l : k < at). omega (arith, ranked _ c _ (sym (sides.0 k d (omega arith) l))))
+      (λ (g : at ≤ k). omega (arith, ranked _ c _ (sym (sides.1 k d g h)))) (cases_lt k at) in
+      rw is (found_first ls c (length ls) d (omega arith) other (λ h. absurd (omega arith)) ∙ slice_get_past ls (length ls) (omega arith))

@@ -1,5 +1,6 @@
 -- Which letters stand for a base letter and a mark, and how a spelling is taken apart. Assumes nothing.
-use Rattle.std.specs.Prelude.{◌≡◌, ℕ, ◌<◌, cond, List, [], ◌∷◌, length, Some, None, Option, ◌==◌, slice_index_or}
+use Rattle.std.specs.Prelude.{◌≡◌, ℕ, ◌<◌, Bool, true, ◌&&◌, nat_lt, List, [], ◌∷◌, length, None, Option, ◌==◌, slice_index_or}
+use Rattle.std.specs.List.{find, list_all}
 use Rattle.keys.specs.declared.letters.Letter.{Letter}
 
 abbrev pub letter : ℕ → ℕ → ℕ → Letter
@@ -66,8 +67,12 @@ table =
 
 -- the entry for the letter c
 abbrev pub found : List Letter → ℕ → Option Letter
-found [] c = None
-found (l ∷ ls) c = cond (l.composed == c) (Some l) (found ls c)
+found ls c = find (λ l. l.composed == c) ls
+
+-- whether each letter is below those after it
+abbrev pub rises : List Letter → Bool
+rises [] = true
+rises (l ∷ ls) = list_all (λ m. nat_lt l.composed m.composed) ls && rises ls
 
 -- the table ascends
 abbrev pub Ascending : List Letter → Type 0

@@ -2,4 +2,4 @@ pub mod Badge
 pub mod Key
 pub mod Letters
 pub mod Name
-pub mod Points
+pub mod Rooms

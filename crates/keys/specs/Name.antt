@@ -1,10 +1,11 @@
 -- Names: which spellings are names, and when two spellings are one name. Assumes nothing.
-use Rattle.std.specs.Prelude.{◌≡◌, ℕ, ◌%◌, Bool, true, false, cond, not, ◌&&◌, List, [], ◌∷◌, ◌++◌, length, Some, None, Ok, Err, IsUtf8, sum, Option, Result, ◌==◌, nat_le}
+use Rattle.std.specs.Prelude.{◌≡◌, ℕ, ◌≤◌, ◌%◌, Bool, true, cond, not, ◌&&◌, List, [], ◌∷◌, ◌++◌, length, Some, None, Ok, Err, IsUtf8, sum, Option, Result, nat_eq, nat_le}
 use Rattle.keys.specs.Letters.{table, found}
 use Rattle.keys.specs.declared.letters.Letter.{Letter}
 use Rattle.refusals.specs.declared.Refusal.{Refusal}
 use Rattle.refusals.specs.declared.Refusal.TheVariants.{NameLength, CodePoint}
-use Rattle.std.specs.List.{ContainsAt}
+use Rattle.std.specs.Cmp.Lexicographic.{pointwise}
+use Rattle.std.specs.List.{ContainsAt, flat_map, list_all}
 use Rattle.std.specs.Str.{chars}
 
 -- a name may have every code point but the surrogates
@@ -12,8 +13,11 @@ abbrev pub allowed : ℕ → Bool
 allowed c = nat_le c 0x10FFFF && not (nat_le 0xD800 c && nat_le c 0xDFFF)
 
 abbrev pub all_allowed : List ℕ → Bool
-all_allowed [] = true
-all_allowed (c ∷ cs) = allowed c && all_allowed cs
+all_allowed cs = list_all allowed cs
+
+-- what each spelling of a name is: 1 to 24 allowed code points
+abbrev pub IsName : List ℕ → Type 0
+IsName cs = (1 ≤ length cs) × (length cs ≤ 24) × (all_allowed cs ≡ true)
 
 -- 1 to 24 allowed code points make a name that keeps them; the length is judged first
 abbrev pub name_answer : List ℕ → Result (List ℕ) Refusal
@@ -29,8 +33,7 @@ parts c = parts_of (found table c) c
 
 -- the identity of a spelling: one code point after the other is taken apart
 abbrev pub identity_of : List ℕ → List ℕ
-identity_of [] = []
-identity_of (c ∷ cs) = parts c ++ identity_of cs
+identity_of cs = flat_map parts cs
 
 -- the shelf of a spelling
 abbrev pub shelf_of : List ℕ → ℕ
@@ -38,10 +41,7 @@ shelf_of cs = sum (identity_of cs) % 16
 
 -- the test of equal lists
 abbrev pub same_points : List ℕ → List ℕ → Bool
-same_points [] [] = true
-same_points [] (y ∷ ys) = false
-same_points (x ∷ xs) [] = false
-same_points (x ∷ xs) (y ∷ ys) = x == y && same_points xs ys
+same_points xs ys = pointwise nat_eq xs ys
 
 -- One spelling is turned into the other by writing letters of the table as base and mark, or back, anywhere and as often
 -- as wanted.

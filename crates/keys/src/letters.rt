@@ -1,6 +1,6 @@
 // The accented letters of Latin-1, each with the base letter and the combining mark that it is made of.
-ghost use Rattle.std.specs.Prelude.{◌≡◌, ◌<◌, slice_index_or};
-ghost use Rattle.keys.specs.Letters.{letter, table, found, Ascending, Closed};
+ghost use Rattle.std.specs.Prelude.{◌≡◌, IsTrue};
+ghost use Rattle.keys.specs.Letters.{table, found, rises, Ascending, Closed};
 
 use crate::latin::LETTERS;
 
@@ -12,37 +12,26 @@ pub struct Letter {
     pub mark: u32,
 }
 
-fn letter_at(at: usize) -> Letter
-    requires { at < 53 }
-    ensures { result ≡ slice_index_or table at (letter 0 0 0) }
-{
-    LETTERS[at]
-}
-
-// The entry for a letter of the table. The table ascends, so halving finds it.
+// The entry for a letter of the table.
+#[tactic(auto, unfolding(crate::specs::Letters::table))]
 pub fn letter_of(point: u32) -> Option<Letter>
     ensures { result ≡ found table point }
 {
-    let mut low = 0;
-    let mut high = LETTERS.len();
-    while low < high {
-        let middle = low + (high - low) / 2;
-        let letter = letter_at(middle);
-        if letter.composed == point {
-            return Some(letter);
-        }
-        if letter.composed < point {
-            low = middle + 1;
-        } else {
-            high = middle;
-        }
-    }
-    None
+    search(&LETTERS, point)
+}
+
+// The entry for a letter among letters that ascend.
+fn search(letters: &[Letter], point: u32) -> Option<Letter>
+    requires { IsTrue (rises letters.now) }
+    ensures { result ≡ found letters.now point }
+{
+    let at = letters
+        .binary_search_by_key(&point, |letter| letter.composed)
+        .ok()?;
+    Some(letters[at])
 }
 
 // The table's rule: it ascends, and nothing that it puts in the place of a letter is a letter of the table.
-pub fn table_is_sound() -> u8
+pub fn table_is_sound()
     ensures { (Ascending table) × (Closed table) }
-{
-    0
-}
+{}

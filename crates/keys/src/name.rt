@@ -1,16 +1,15 @@
 // Names: what the counter and the app write for a member.
-ghost use Rattle.std.specs.Prelude.{◌≡◌, ℕ, ◌<◌, ◌≤◌, true, List, length, sum, MatchOption};
-ghost use Rattle.keys.specs.Name.{allowed, all_allowed, name_answer, identity_of, shelf_of, same_points, OneName, AcuteE, TextsAllowed};
-ghost use Rattle.keys.specs.Points.{held};
-ghost use Rattle.refusals.specs.Answers.{answered};
+ghost use Rattle.std.specs.Prelude.{◌≡◌, ℕ, ◌<◌, ◌≤◌, List, length, sum, MatchOption};
+ghost use Rattle.keys.specs.Name.{allowed, all_allowed, IsName, name_answer, identity_of, shelf_of, same_points, OneName, AcuteE, TextsAllowed};
 ghost use Rattle.std.specs.Str.{chars};
-ghost use Rattle.std.proofs.Common.{rules};
-ghost use Rattle.std.proofs.lemmas.Slice.Eq.{compares_Decides};
+ghost use Rattle.std.proofs.Common.{rules, sym};
+ghost use Rattle.std.proofs.lemmas.Slice.Eq.{bytes_eq-Decides};
 
 use crate::key::Key;
 use crate::letters::letter_of;
 use crate::points::Points;
 use refusals::Refusal;
+use std::marker::Model;
 
 // A spelling, as it was given. Beside it stand the identity and the shelf, so that comparing two names takes nothing apart.
 #[derive(Clone, Copy)]
@@ -18,18 +17,30 @@ pub struct Name {
     spelling: Points<24>,
     identity: Points<48>,
     shelf: u8,
-    ghost spelled: { (1 ≤ length (held spelling)) × (all_allowed (held spelling) ≡ true) },
-    ghost apart: { held identity ≡ identity_of (held spelling) },
-    ghost shelved: { shelf ≡ shelf_of (held spelling) },
+}
+
+// A clause sees a name as its spelling.
+impl Model for Name {
+    ghost Value = { List ℕ };
+
+    ghost view = { λ n. n.spelling };
+
+    ghost invariant = { λ n. IsName n.spelling × (n.identity ≡ identity_of n.spelling) × (n.shelf ≡ shelf_of n.spelling) };
+
+    ghost inverse = { λ s. record { spelling = s; identity = identity_of s; shelf = shelf_of s } };
+
+    ghost inverse_ok = { λ n h i. record { spelling = n.spelling; identity = sym h.1 i; shelf = sym h.2 i } };
 }
 
 impl Name {
     // The largest number of code points in a spelling. Each may be taken apart into two.
     pub const MAX: usize = 24;
 
+    // No `TryFrom` or `FromStr` beside the next two, which would be second names for them.
+
     // The name with these code points. Refused where there are none or more than 24, and then where one is not allowed.
     pub fn new(points: &[u32]) -> Result<Name, Refusal>
-        ensures { answered (λ n. held n.spelling) result ≡ name_answer points.now }
+        ensures { result ≡ name_answer points.now }
     {
         if points.is_empty() || points.len() > Name::MAX {
             return Err(Refusal::NameLength);
@@ -37,7 +48,7 @@ impl Name {
         if !are_allowed(points) {
             return Err(Refusal::CodePoint);
         }
-        let spelling = kept(points);
+        let spelling = Points::from_slice(points);
         let identity = decompose(points);
         let shelf = (total(identity.as_slice()) % 16) as u8;
         Ok(Name {
@@ -49,32 +60,31 @@ impl Name {
 
     // The name that a text spells, refused like its code points.
     pub fn from_text(text: &str) -> Result<Name, Refusal>
-        ensures { answered (λ n. held n.spelling) result ≡ name_answer (chars text.now) }
+        ensures { result ≡ name_answer (chars text.now) }
     {
-        match points_of(text) {
-            Some(points) => Name::new(points.as_slice()),
-            None => Err(Refusal::NameLength),
-        }
+        let points = points_of(text).ok_or(Refusal::NameLength)?;
+        Name::new(points.as_slice())
     }
 
     // The code points of the name, as they were given.
     pub fn spelling(&self) -> &[u32]
-        ensures { result.now ≡ held self.now.spelling }
+        ensures value { result.now ≡ self.now }
+        ensures name { IsName result.now }
     {
         self.spelling.as_slice()
     }
 
     // The code points of the name, taken apart.
     pub fn identity(&self) -> &[u32]
-        ensures { result.now ≡ identity_of (held self.now.spelling) }
+        ensures { result.now ≡ identity_of self.now }
     {
         self.identity.as_slice()
     }
 }
 
-// The code points of a text, if there are at most 24.
+// The code points of a text, if there are at most 24. A loop, since a chain has nothing to collect in without a heap.
 fn points_of(text: &str) -> Option<Points<24>>
-    ensures { MatchOption result (24 < length (chars text.now)) (λ p. held p ≡ chars text.now) }
+    ensures { MatchOption result (24 < length (chars text.now)) (λ p. p ≡ chars text.now) }
 {
     let mut points = Points::new();
     for point in text.chars() {
@@ -89,36 +99,19 @@ fn points_of(text: &str) -> Option<Points<24>>
 fn is_allowed(point: u32) -> bool
     ensures { result ≡ allowed point }
 {
-    point <= 0x10FFFF && !(0xD800 <= point && point <= 0xDFFF)
+    char::from_u32(point).is_some()
 }
 
 fn are_allowed(points: &[u32]) -> bool
     ensures { result ≡ all_allowed points.now }
 {
-    for point in points {
-        if !is_allowed(*point) {
-            return false;
-        }
-    }
-    true
-}
-
-// The code points, in a room of their own.
-fn kept(points: &[u32]) -> Points<24>
-    requires { length points.now ≤ 24 }
-    ensures { held result ≡ points.now }
-{
-    let mut spelling = Points::new();
-    for point in points {
-        spelling.push(*point);
-    }
-    spelling
+    points.iter().all(|point| is_allowed(*point))
 }
 
 // The identity: each letter of the table is written as its base and its mark.
 fn decompose(points: &[u32]) -> Points<48>
     requires { length points.now ≤ 24 }
-    ensures { held result ≡ identity_of points.now }
+    ensures { result ≡ identity_of points.now }
 {
     let mut identity = Points::new();
     for point in points {
@@ -137,38 +130,28 @@ fn total(points: &[u32]) -> u64
     requires { length points.now ≤ 48 }
     ensures { result ≡ sum points.now }
 {
-    let mut total = 0;
-    for point in points {
-        total += u64::from(*point);
-    }
-    total
-}
-
-fn equal_points(a: &Points<48>, b: &Points<48>) -> bool
-    ensures { result ≡ same_points (held a.now) (held b.now) }
-{
-    a.as_slice() == b.as_slice()
+    points.iter().map(|point| u64::from(*point)).sum()
 }
 
 impl Key for Name {
     ghost Identity = { List ℕ };
 
-    ghost identity = { λ n. identity_of (held n.spelling) };
+    ghost identity = { identity_of };
 
-    ghost alike = { λ a b. same_points (identity_of (held a.spelling)) (identity_of (held b.spelling)) };
+    ghost alike = { λ a b. same_points (identity_of a) (identity_of b) };
 
-    ghost shelved = { λ n. shelf_of (held n.spelling) };
+    ghost shelved = { shelf_of };
 
-    ghost sound = { λ a b e. (compares_Decides same_points (Prim.search rules) _ _).0 e };
+    ghost sound = { λ a b e. (bytes_eq-Decides _ _).0 e };
 
-    ghost complete = { λ a b e. (compares_Decides same_points (Prim.search rules) _ _).1 e };
+    ghost complete = { λ a b e. (bytes_eq-Decides _ _).1 e };
 
     ghost below = { Prim.search rules };
 
     ghost together = { Prim.search rules };
 
     fn same(&self, other: &Name) -> bool {
-        equal_points(&self.identity, &other.identity)
+        self.identity() == other.identity()
     }
 
     fn shelf(&self) -> u8 {
@@ -177,22 +160,16 @@ impl Key for Name {
 }
 
 // Two spellings have one identity exactly where letters written as base and mark, or back, turn one into the other.
-pub fn one_name_is_respelled() -> u8
+pub fn one_name_is_respelled()
     ensures { OneName }
-{
-    0
-}
+{}
 
 // The worked example of two spellings: they are one name, on shelf 6.
-pub fn acute_e_is_one_name() -> u8
+pub fn acute_e_is_one_name()
     ensures { AcuteE }
-{
-    0
-}
+{}
 
 // A text never has a code point that a name may not have.
-pub fn texts_are_allowed() -> u8
+pub fn texts_are_allowed()
     ensures { TextsAllowed }
-{
-    0
-}
+{}

@@ -1,19 +1,32 @@
 // Code points in order, in a room of a fixed size.
-ghost use Rattle.std.specs.Prelude.{◌≡◌, ◌+◌, ◌<◌, ◌≤◌, [], ◌∷◌, ◌++◌, length, take, ◌==◌};
+ghost use Rattle.std.specs.Prelude.{◌≡◌, ◌<◌, ◌≤◌, List, ℕ, [], ◌∷◌, ◌++◌, length, take, drop, ◌==◌};
+ghost use Rattle.keys.specs.Rooms.{zeros_after, length_held, room_back};
 
-// At most N code points: the first `len` of `room`.
+use std::marker::Model;
+
+// At most N code points: the first `len` of `room`. The rest of the room is zeros.
 #[derive(Clone, Copy)]
 pub(crate) struct Points<const N: usize> {
     room: [u32; N],
     len: usize,
-    ghost sized: { length room ≡ N },
-    ghost within: { len ≤ N },
+}
+
+// A clause sees the code points as a list.
+impl<const N: usize> Model for Points<N> {
+    ghost Value = { List ℕ };
+
+    ghost view = { λ p. take p.len p.room };
+
+    ghost invariant = { λ p. (length p.room ≡ N) × (p.len ≤ N) × (drop p.len p.room ≡ zeros_after N p.len) };
+
+    ghost inverse = { λ l. record { room = l ++ zeros_after N (length l); len = length l } };
+
+    ghost inverse_ok = { λ a h i. record { room = room_back a.room N a.len h.0 h.1 h.2 i; len = length_held a.room N a.len h.0 h.1 i } };
 }
 
 impl<const N: usize> Points<N> {
     pub(crate) fn new() -> Points<N>
-        ensures items { take result.len result.room ≡ [] }
-        ensures len { result.len ≡ 0 }
+        ensures { result ≡ [] }
     {
         Points {
             room: [0; N],
@@ -21,26 +34,35 @@ impl<const N: usize> Points<N> {
         }
     }
 
+    // These code points, in a room of their own.
+    pub(crate) fn from_slice(points: &[u32]) -> Points<N>
+        requires { length points.now ≤ N }
+        ensures { result ≡ points.now }
+    {
+        let len = points.len();
+        let mut room = [0; N];
+        room[..len].copy_from_slice(points);
+        Points { room, len }
+    }
+
     pub(crate) fn is_full(&self) -> bool
-        ensures { result ≡ (self.now.len == N) }
+        ensures { result ≡ (length self.now == N) }
     {
         self.len == N
     }
 
     // One code point more.
     pub(crate) fn push(&mut self, point: u32)
-        requires { self.old.len < N }
-        ensures items { take self.new.len self.new.room ≡ take self.old.len self.old.room ++ point ∷ [] }
-        ensures len { self.new.len ≡ self.old.len + 1 }
+        requires { length self.old < N }
+        ensures { self.new ≡ self.old ++ point ∷ [] }
     {
         self.room[self.len] = point;
         self.len += 1;
     }
 
     pub(crate) fn as_slice(&self) -> &[u32]
-        ensures { result.now ≡ take self.now.len self.now.room }
+        ensures { result.now ≡ self.now }
     {
-        let room = &self.room[..];
-        &room[0..self.len]
+        &self.room[..self.len]
     }
 }

@@ -105,8 +105,6 @@ impl Query {
 }
 
 // Queries that mean the same are the same in every field.
-pub fn equal_readings_are_equal() -> u8
+pub fn equal_readings_are_equal()
     ensures { OneValue }
-{
-    0
-}
+{}

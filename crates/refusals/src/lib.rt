@@ -28,11 +28,9 @@ impl Refusal {
 }
 
 // No two refusals have one number.
-pub fn numbers_differ() -> u8
+pub fn numbers_differ()
     ensures { Distinct }
-{
-    0
-}
+{}
 
 // The line by which a program reports a refusal at the line or record `at`, counted from 1.
 #[derive(Clone, Copy)]

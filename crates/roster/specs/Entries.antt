@@ -1,15 +1,10 @@
 -- Names that were entered, the newest first, and what can be asked of them. Assumes nothing.
 use Rattle.std.specs.Prelude.{ℕ, ◌+◌, cond, List, [], ◌∷◌, is_some, Some, None, Option}
-use Rattle.keys.specs.Name.{identity_of, same_points}
-use Rattle.keys.specs.Points.{held}
-use Rattle.keys.specs.declared.name.Name.{Name}
+use Rattle.keys.specs.Name.{same_points}
 
 -- an identity, and the line that had it
 abbrev pub Entry : Type 0
 Entry = List ℕ × ℕ
-
-abbrev pub name_identity : Name → List ℕ
-name_identity n = identity_of (held n.spelling)
 
 abbrev pub or_else : Option ℕ → Option ℕ → Option ℕ
 or_else None other = other

@@ -1,4 +1,4 @@
 pub mod Entries
 pub mod Listing
 pub mod Printed
-pub mod Tree
+pub mod Members

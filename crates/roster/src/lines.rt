@@ -16,9 +16,7 @@ impl fmt::Display for Listed {
     ghost output = { λ x. Some (name_line x) };
 
     fn fmt<W: fmt::Write>(&self, f: &mut fmt::Formatter<W>) -> fmt::Result {
-        let line = self.line;
-        let first = self.first;
-        let shelf = self.shelf;
+        let Listed { line, first, shelf } = *self;
         write!(f, "name {line} {first} {shelf}")
     }
 }
@@ -34,8 +32,7 @@ impl fmt::Display for End {
     ghost output = { λ x. Some (end_line x) };
 
     fn fmt<W: fmt::Write>(&self, f: &mut fmt::Formatter<W>) -> fmt::Result {
-        let lines = self.lines;
-        let members = self.members;
+        let End { lines, members } = *self;
         write!(f, "end {lines} {members}")
     }
 }

@@ -12,6 +12,7 @@ use refusals::Refused;
 use std::alloc::AllocError;
 use std::fmt;
 
+// No Result<Listed, Refused>, which has no Display of its own: this one promises the line that is printed.
 #[derive(Clone, Copy)]
 pub enum Answer {
     Member(Listed),
@@ -32,7 +33,7 @@ impl fmt::Display for Answer {
 impl Members {
     // Answers a line, and enters its name.
     pub fn list(&mut self, text: &str, line: u64) -> Result<Answer, AllocError>
-        ensures { Lists self.old.tree (name_answer (chars text.now)) line self.new.tree result }
+        ensures { Lists self.old (name_answer (chars text.now)) line self.new result }
     {
         match Name::from_text(text) {
             Ok(name) => {

@@ -4,7 +4,6 @@
 mod lines;
 mod listing;
 mod members;
-mod tree;
 
 use lines::End;
 use members::Members;
@@ -13,6 +12,7 @@ use std::io::{BufRead, BufReader, BufWriter, Write};
 fn list_all(rt: &HostRuntime, out: &mut (impl Write + Drop)) -> anyhow::Result<()> {
     let heap = rt.alloc();
     let mut members = Members::new(heap);
+    // Not by enumerate, which would not keep the number of lines for the end.
     let mut lines: u64 = 0;
     for text in BufReader::new(heap, rt.stdin())?.lines(heap) {
         lines = lines.saturating_add(1);

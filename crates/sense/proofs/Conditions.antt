@@ -1,26 +1,28 @@
 -- What conditions and clauses do to a draft. Assumes nothing.
-use Rattle.std.proofs.Common.{◌≡◌, ℕ, ◌+◌, min, Bool, false, eqb, List, [], ◌∷◌, ◌++◌, None, Option, sym, refl, ap, ◌∙◌, arith}
+use Rattle.std.proofs.Common.{◌≡◌, ℕ, ◌+◌, min, Bool, eqb, List, [], ◌∷◌, ◌++◌, Option, sym, refl, ap, ◌∙◌, arith}
 use Rattle.grammar.specs.Syntax.{Written, Cond, Clause, Part}
 use Rattle.grammar.specs.Syntax.Clause.{same_key, condition}
 use Rattle.grammar.specs.Syntax.Cond.{test, both, either}
 use Rattle.sense.proofs.Faulted.{faulted, fault_if_is}
 use Rattle.sense.proofs.Least.{least_append}
-use Rattle.sense.proofs.Names.{first_used, mixed_used, first_append, mixed_append, mixed_differ, negatives_append, test_used_is, negatives_used, names_are}
+use Rattle.sense.proofs.Names.{all_used, several_differ, negatives_append, test_used_is, negatives_used, names_are}
 use Rattle.sense.proofs.Rooms.{one_more_min, eqb_min, put, taken, put_append, taken_append}
 use Rattle.sense.proofs.Sequence.{Owned}
-use Rattle.sense.specs.Drafted.{one_more, with_clauses, key_asked, clause_begun, step_kept, test_counted, end_kept, clause_ended, joined, test_resolved, test_kept, test_added}
+use Rattle.sense.specs.Drafted.{negatives_with, are_several, one_more, with_clauses, key_asked, clause_begun, step_kept, test_counted, end_kept, clause_ended, joined, test_resolved, test_kept, test_added}
 use Rattle.sense.specs.Drafting.{cond_drafted, clause_drafted, clauses_drafted}
 use Rattle.sense.specs.Faults.{least_from}
 use Rattle.sense.specs.Meaning.{Tree, postfix}
 use Rattle.sense.specs.Meaning.Tree.{leaf, and, or}
 use Rattle.sense.specs.Sense.{test_names, cond_names, tests_in, clause_tests, negatives, fault_where, unbound, cond_faults, differ, clause_faults, clauses_faults}
 use Rattle.sense.specs.declared.clauses.Clauses.{Clauses}
+use Rattle.sense.specs.declared.clauses.Negatives.TheVariants.{None}
 use Rattle.sense.specs.declared.clauses.Step.{Step}
 use Rattle.sense.specs.declared.clauses.Step.TheVariants as step
 use Rattle.sense.specs.declared.draft.Draft.{Draft}
 use Rattle.sense.specs.declared.fault.SenseFault.{SenseFault}
 use Rattle.sense.specs.declared.fault.SenseFault.TheVariants.{ManyTests, TwoNegatives}
 use Rattle.sense.specs.declared.parts.Parts.{Parts}
+use Rattle.std.proofs.lemmas.List.Sums.{fold-append}
 
 -- ---- conditions
 
@@ -39,8 +41,7 @@ after cs ss vs n = record {
   ends = cs.ends;
   len = cs.len;
   tests = min 25 n;
-  negative = first_used cs.negative vs;
-  mixed = mixed_used cs.negative cs.mixed vs;
+  negatives = all_used cs.negatives vs;
 }
 
 -- what a test behind n others does to a draft
@@ -63,8 +64,7 @@ test_is ps n d w own h =
         ends = last.ends;
         len = last.len;
         tests = (ap (one_more 25) h ∙ one_more_min 25 n) i;
-        negative = last.negative;
-        mixed = last.mixed;
+        negatives = last.negatives;
       };
       window = d.window;
       fault = (ap (λ (b : Bool). least_from e.fault (fault_where b (ManyTests w.place))) (eqb_min 24 d.clauses.tests n h) ∙ sym (least_append d.fault fs (fault_where (eqb n 24) (ManyTests w.place)))) i;
@@ -78,11 +78,10 @@ join_is d ss ts us vs ws m n fs s e =
     let cs = d.clauses in
     let steps = put_append 47 cs.steps cs.used ss (ts ++ (s ∷ [])) ∙ put_append 47 (put 47 cs.steps cs.used ss) (taken 47 cs.used ss) ts (s ∷ []) in
     let used = taken_append 47 cs.used ss (ts ++ (s ∷ [])) ∙ taken_append 47 (taken 47 cs.used ss) ts (s ∷ []) in
-    let negative = ap (first_used cs.negative) e ∙ first_append cs.negative us vs in
-    let mixed = ap (mixed_used cs.negative cs.mixed) e ∙ mixed_append cs.negative cs.mixed us vs in
+    let negatives = ap (all_used cs.negatives) e ∙ fold-append negatives_with cs.negatives us vs in
     λ i. record {
       parts = d.parts;
-      clauses = record { key = cs.key; steps = sym steps i; used = sym used i; ends = cs.ends; len = cs.len; tests = min 25 n; negative = sym negative i; mixed = sym mixed i };
+      clauses = record { key = cs.key; steps = sym steps i; used = sym used i; ends = cs.ends; len = cs.len; tests = min 25 n; negatives = sym negatives i };
       window = d.window;
       fault = least_from d.fault fs;
     }
@@ -129,9 +128,9 @@ clause_is ps n d (condition p c) own h =
     let e = with_clauses d (clause_begun d.clauses) in
     let vs = negatives ps (cond_names c) in
     ap (λ (x : Draft). clause_ended x p) (cond_is ps n e c own h) ∙
-    ap (λ (x : Draft). with_clauses x (clause_after d.parts ps n d.clauses (condition p c))) (fault_if_is (mixed_used None false vs) (TwoNegatives p) (cond_after ps n e c)) ∙
+    ap (λ (x : Draft). with_clauses x (clause_after d.parts ps n d.clauses (condition p c))) (fault_if_is (are_several (all_used None vs)) (TwoNegatives p) (cond_after ps n e c)) ∙
     ap (λ (o : Option SenseFault). record { parts = d.parts; clauses = clause_after d.parts ps n d.clauses (condition p c); window = d.window; fault = o })
-    (ap (λ (b : Bool). least_from (least_from d.fault (cond_faults ps n c)) (fault_where b (TwoNegatives p))) (mixed_differ vs) ∙
+    (ap (λ (b : Bool). least_from (least_from d.fault (cond_faults ps n c)) (fault_where b (TwoNegatives p))) (several_differ vs) ∙
     sym (least_append d.fault (cond_faults ps n c) (fault_where (differ vs) (TwoNegatives p))))
 
 abbrev pub clauses_after : Parts → List Part → ℕ → Clauses → List Clause → Clauses

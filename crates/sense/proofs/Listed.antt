@@ -1,5 +1,6 @@
 -- The kinds that a part lists. Assumes nothing.
-use Rattle.std.proofs.Common.{◌≡◌, ℕ, ◌<◌, Bool, true, false, not, ◌||◌, List, [], ◌∷◌, length, get_or, set, is_some, Some, None, Option, sym, refl, ap, ◌∙◌, ⊎_elim, length-set}
+use Rattle.std.proofs.lemmas.Bool.Decides.{nat_tests}
+use Rattle.std.proofs.Common.{◌≡◌, ℕ, ◌<◌, Bool, true, false, not, ◌||◌, List, [], ◌∷◌, length, get_or, set, is_some, Some, None, Option, sym, refl, ap, ◌∙◌, arith, length-set}
 use mathlib.Core.Bool.{or-false}
 use Rattle.events.specs.Kind.{kind_named}
 use Rattle.grammar.specs.Syntax.{Word}
@@ -13,7 +14,6 @@ use Rattle.sense.specs.declared.draft.Draft.{Draft}
 use Rattle.sense.specs.declared.fault.SenseFault.TheVariants.{UnknownKind}
 use Rattle.std.proofs.lemmas.List.FromFn.{fill_by_all}
 use Rattle.std.proofs.lemmas.List.{get_or-set_same, get_or-set_other, get_or-replicate}
-use Rattle.std.proofs.lemmas.Bool.{cases_eq, eq-eqb, ne_eqb}
 
 abbrev kind_set : Option ℕ → List Bool → List Bool
 kind_set None ks = ks
@@ -42,16 +42,11 @@ kinds_is d (w ∷ ws) =
     (λ i. record { parts = with_kinds d.parts (kinds_set ks ws); clauses = d.clauses; window = d.window; fault = sym (least_append d.fault f (unknown_kinds ws)) i })
 
 same_or : (a b c : Bool) → (b || (a || c)) ≡ ((a || b) || c)
-same_or true true c = refl
-same_or true false c = refl
-same_or false b c = refl
+same_or a b c = grind (arith, nat_tests)
 
 kind_set_at : (o : Option ℕ) (ks : List Bool) (i : ℕ) → i < length ks → get_or (kind_set o ks) i false ≡ (same_kind o i || get_or ks i false)
 kind_set_at None ks i h = refl
-kind_set_at (Some k) ks i h =
-    ⊎_elim
-    (λ (e : k ≡ i). rw e (get_or-set_same ks i true false h) ∙ ap (λ (b : Bool). b || get_or ks i false) (sym (eq-eqb k i e)))
-    (λ (n : k ≡ i → ⊥). get_or-set_other ks k i true false (λ e. n (sym e)) ∙ ap (λ (b : Bool). b || get_or ks i false) (sym (ne_eqb k i n))) (cases_eq k i)
+kind_set_at (Some k) ks i h = grind (arith, nat_tests, get_or-set_same {A = Bool}, get_or-set_other {A = Bool})
 
 kind_set_length : (o : Option ℕ) (ks : List Bool) → length (kind_set o ks) ≡ length ks
 kind_set_length None ks = refl

@@ -1,5 +1,5 @@
 -- Lists of faults that are empty. Assumes nothing.
-use Rattle.std.proofs.Common.{◌≡◌, ℕ, Bool, true, false, not, List, [], ◌∷◌, ◌++◌, sym, refl, ap, ◌∙◌, arith}
+use Rattle.std.proofs.Common.{◌≡◌, Bool, true, false, not, List, [], ◌∷◌, ◌++◌, sym, refl, ap, ◌∙◌}
 use Rattle.sense.specs.Sense.{fault_where}
 use Rattle.sense.specs.declared.fault.SenseFault.{SenseFault}
 use Rattle.std.proofs.lemmas.Bool.{not-false, not_from_true}
@@ -8,13 +8,13 @@ use Rattle.std.specs.List.{AllByRecursion}
 -- lists that have nothing together have nothing each
 pub nils : (fs gs : List SenseFault) → fs ++ gs ≡ [] → (fs ≡ []) × (gs ≡ [])
 nils [] gs e = (refl, e)
-nils (f ∷ fs) gs e = let z : ◌≡◌ {A = ℕ} 0 1 = cc in absurd (omega arith)
+nils (f ∷ fs) gs e = cc
 
 pub nils_from : (fs gs : List SenseFault) → fs ≡ [] → gs ≡ [] → fs ++ gs ≡ []
 nils_from fs gs e f = ap (λ (l : List SenseFault). l ++ gs) e ∙ f
 
 pub none_where : (b : Bool) (f : SenseFault) → fault_where b f ≡ [] → b ≡ false
-none_where true f e = let z : ◌≡◌ {A = ℕ} 0 1 = cc in absurd (omega arith)
+none_where true f e = cc
 none_where false f e = refl
 
 pub where_none : (b : Bool) (f : SenseFault) → b ≡ false → fault_where b f ≡ []

@@ -1,17 +1,18 @@
 -- Rooms of a fixed size. Assumes nothing.
-use Rattle.std.proofs.Common.{◌≡◌, ℕ, suc, ◌+◌, ◌-◌, ◌<◌, ◌≤◌, min, eqb, ltb, List, [], ◌∷◌, ◌++◌, length, set, replicate, sym, refl, ap, ◌∙◌, ⊎_elim, append_assoc, append-nil, arith, length-append}
+use Rattle.std.proofs.lemmas.Bool.Decides.{nat_tests}
+use Rattle.std.proofs.Common.{◌≡◌, ℕ, suc, ◌+◌, ◌-◌, ◌<◌, ◌≤◌, min, eqb, List, [], ◌∷◌, ◌++◌, length, set, replicate, sym, refl, ap, ◌∙◌, append_assoc, append-nil, arith, length-append}
 use Rattle.sense.specs.Drafted.{kept_with, one_more}
 use Rattle.sense.specs.Meaning.{laid}
 use Rattle.std.proofs.lemmas.List.{set_at, length_push}
-use Rattle.std.proofs.lemmas.Bool.{cond-true, cond_both, ltb-true, ltb-false, lt-ltb, cases_eq, eq-eqb, ne_eqb}
+use Rattle.std.proofs.lemmas.Bool.{cond-true, lt-ltb}
 
 -- counting up to n, and no further
 pub one_more_min : (n i : ℕ) → one_more n (min n i) ≡ min n (i + 1)
-one_more_min n i = cond_both (ltb (min n i) n) (min n i + 1) (min n i) (λ k. k ≡ min n (i + 1)) (λ t. omega (arith, ltb-true _ _ t)) (λ t. omega (arith, ltb-false _ _ t))
+one_more_min n i = grind (arith, nat_tests)
 
 -- counting up to one more than n tells whether there are n
 pub eqb_min : (n a b : ℕ) → a ≡ min (n + 1) b → eqb a n ≡ eqb b n
-eqb_min n a b e = ⊎_elim (λ (s : b ≡ n). eq-eqb a n (omega arith) ∙ sym (eq-eqb b n s)) (λ (k : b ≡ n → ⊥). ne_eqb a n (λ s. k (omega arith)) ∙ sym (ne_eqb b n k)) (cases_eq b n)
+eqb_min n a b e = grind (arith, nat_tests)
 
 -- one more in a room with a free place
 pub kept_laid : {X : Type 0} (n : ℕ) (x : X) (xs : List X) (y : X) → length xs < n → kept_with n (laid n x xs) (length xs) y ≡ laid n x (xs ++ (y ∷ []))
@@ -39,7 +40,7 @@ taken_append n used [] ys = refl
 taken_append n used (x ∷ xs) ys = taken_append n (one_more n used) xs ys
 
 pub one_more_below : (n i : ℕ) → i < n → one_more n i ≡ i + 1
-one_more_below n i h = cond-true _ _ _ (lt-ltb i n h)
+one_more_below n i h = grind (arith, nat_tests)
 
 -- what fits in a room is put behind what stands there
 pub put_laid : {X : Type 0} (n : ℕ) (x : X) (xs ys : List X) → length xs + length ys ≤ n → put n (laid n x xs) (length xs) ys ≡ laid n x (xs ++ ys)

@@ -1,25 +1,27 @@
 -- What a draft holds of the parts that have been read. Assumes nothing.
-use Rattle.std.proofs.Common.{◌≡◌, ℕ, ◌+◌, ◌<◌, ◌≤◌, min, Bool, true, false, cond, eqb, List, [], ◌∷◌, ◌++◌, map, length, get_or, set, replicate, is_some, Some, None, Option, sym, refl, ap, ◌∙◌, subst, ⊎_elim, append_assoc, append-nil, arith, length-set}
+use Rattle.std.proofs.lemmas.Bool.Decides.{nat_tests}
+use Rattle.std.proofs.Common.{◌≡◌, ℕ, ◌+◌, ◌<◌, ◌≤◌, min, Bool, true, false, cond, eqb, List, [], ◌∷◌, ◌++◌, map, length, get_or, replicate, is_some, Some, None, Option, sym, refl, ap, ◌∙◌, subst, ⊎_elim, append_assoc, append-nil, arith, length-set}
 use lib.ListN.{length-replicate}
 use Rattle.grammar.specs.Syntax.{Part}
 use Rattle.sense.proofs.Faulted.{faulted, fault_if_is}
 use Rattle.sense.proofs.Least.{least_append}
 use Rattle.sense.proofs.Listed.{kinds_set, kinds_changed, kinds_is, kinds_set_all}
-use Rattle.sense.proofs.Owners.{or_else, owner_push, positives_push, ends_push, last_place, place_push}
+use Rattle.sense.proofs.Owners.{owner_push, positives_push, last_negative, last_push, last_ends}
 use Rattle.sense.proofs.Rooms.{one_more_min, eqb_min, kept_laid}
 use Rattle.sense.specs.Drafted.{no_kinds, blank, no_parts, kept_with, one_more, fault_if, with_parts, with_kinds, part_begun, binding_in, bound_with, part_kept, misplaced_in, part_ended}
 use Rattle.sense.specs.Drafting.{part_drafted, parts_drafted}
 use Rattle.sense.specs.Faults.{least_from}
 use Rattle.sense.specs.Meaning.{part_of, laid}
-use Rattle.sense.specs.Sense.{owner, positives, ends_negative, fault_where, unknown_kinds, part_faults, parts_faults}
+use Rattle.sense.specs.Sense.{owner, positives, fault_where, unknown_kinds, part_faults, parts_faults}
 use Rattle.sense.specs.declared.draft.Draft.{Draft}
 use Rattle.sense.specs.declared.fault.SenseFault.{SenseFault}
 use Rattle.sense.specs.declared.fault.SenseFault.TheVariants.{Doubled, Shape}
 use Rattle.sense.specs.declared.parts.Binding.{Binding}
 use Rattle.sense.specs.declared.parts.Parts.{Parts}
 use Rattle.std.proofs.lemmas.List.{get_or-set_same, get_or-set_other, get_or-replicate, get_or_past, map_push, length_push, length-map}
-use Rattle.std.proofs.lemmas.Bool.{cond-true, cond-false, cases_lt, cases_eq, eq-eqb, ne_eqb}
+use Rattle.std.proofs.lemmas.Bool.{cases_lt}
 use Rattle.std.specs.List.{AllByRecursion}
+use Rattle.std.specs.Option.{option_or}
 
 -- ---- one part
 
@@ -69,8 +71,7 @@ pub record Stands (ps : Parts) (before : List Part) : Type 0 where
   pub len : ps.len ≡ min 12 (length before)
   pub kept : length before ≤ 12 → ps.kept ≡ laid 12 blank (map part_of before)
   pub positives : ps.positives ≡ min 7 (positives before)
-  pub negative : ps.negative ≡ ends_negative before
-  pub place : ps.place ≡ last_place before
+  pub last : ps.last_negative ≡ last_negative before
 
 pub stands_none : Stands no_parts []
 stands_none = record {
@@ -79,48 +80,32 @@ stands_none = record {
   len = refl;
   kept = λ h. refl;
   positives = refl;
-  negative = refl;
-  place = refl;
+  last = refl;
 }
 
 size_with : (o : Option Binding) (bound : List (Option Binding)) (letter : ℕ) (b : Binding) → length (bound_with o bound letter b) ≡ length bound
 size_with None bound letter b = length-set bound letter (Some b)
 size_with (Some a) bound letter b = refl
 
-or_none : {X : Type 0} (o : Option X) → or_else o None ≡ o
+or_none : {X : Type 0} (o : Option X) → option_or o None ≡ o
 or_none None = refl
 or_none (Some x) = refl
 
 -- the first to have a variable keeps it
 bound_at : (o : Option Binding) (bound : List (Option Binding)) (letter v : ℕ) (b : Binding) → get_or bound letter None ≡ o → letter < length bound →
-    get_or (bound_with o bound letter b) v None ≡ or_else (get_or bound v None) (cond (eqb letter v) (Some b) None)
-bound_at None bound letter v b is h =
-    ⊎_elim
-    (λ (e : letter ≡ v).
-    ap (λ (k : ℕ). get_or (set bound letter (Some b)) k None) (sym e) ∙ get_or-set_same bound letter (Some b) None h ∙
-    sym (ap (λ (o : Option Binding). or_else o (cond (eqb letter v) (Some b) None)) (ap (λ (k : ℕ). get_or bound k None) (sym e) ∙ is) ∙ cond-true _ _ _ (eq-eqb letter v e)))
-    (λ (n : letter ≡ v → ⊥).
-    get_or-set_other bound letter v (Some b) None (λ e. n (sym e)) ∙
-    sym (ap (or_else (get_or bound v None)) (cond-false _ (Some b) None (ne_eqb letter v n)) ∙ or_none (get_or bound v None)))
-    (cases_eq letter v)
-bound_at (Some a) bound letter v b is h =
-    ⊎_elim
-    (λ (e : letter ≡ v). let here = ap (λ (k : ℕ). get_or bound k None) (sym e) ∙ is in here ∙ sym (ap (λ (o : Option Binding). or_else o (cond (eqb letter v) (Some b) None)) here))
-    (λ (n : letter ≡ v → ⊥). sym (ap (or_else (get_or bound v None)) (cond-false _ (Some b) None (ne_eqb letter v n)) ∙ or_none (get_or bound v None)))
-    (cases_eq letter v)
+    get_or (bound_with o bound letter b) v None ≡ option_or (get_or bound v None) (cond (eqb letter v) (Some b) None)
+bound_at o bound letter v b is h = grind (arith, nat_tests, get_or-set_same {A = Option Binding}, get_or-set_other {A = Option Binding}, or_none)
 
 bound_else : (o : Option (ℕ × Bool)) (c : Bool) (x : ℕ × Bool) (b : Binding) → b.part ≡ min 12 x.0 → b.negative ≡ x.1 →
-    or_else (bound_by o) (cond c (Some b) None) ≡ bound_by (or_else o (cond c (Some x) None))
-bound_else None true x b p n = λ i. Some (record { part = p i; negative = n i })
-bound_else None false x b p n = refl
-bound_else (Some o) c x b p n = refl
+    option_or (bound_by o) (cond c (Some b) None) ≡ bound_by (option_or o (cond c (Some x) None))
+bound_else o c x b p n = grind (arith, nat_tests)
 
 owned_more : (ps : Parts) (before : List Part) (p : Part) → Stands ps before → p.variable.letter < 256 → Owned (kept_parts ps p) (before ++ (p ∷ []))
 owned_more ps before p s h v =
     let letter = p.variable.letter in
     let b : Binding = record { part = ps.len; negative = p.negative } in
     bound_at (binding_in ps letter) ps.bound letter v b refl (omega (arith, s.size)) ∙
-    ap (λ (o : Option Binding). or_else o (cond (eqb letter v) (Some b) None)) (s.owned v) ∙
+    ap (λ (o : Option Binding). option_or o (cond (eqb letter v) (Some b) None)) (s.owned v) ∙
     bound_else (owner before v) (eqb letter v) (length before, p.negative) b s.len refl ∙
     ap bound_by (sym (owner_push before p v))
 
@@ -144,8 +129,7 @@ stands_more ps before p s h = record {
   len = ap (one_more 12) s.len ∙ one_more_min 12 (length before) ∙ ap (min 12) (sym (length_push before p));
   kept = kept_more ps before p s;
   positives = positives_more p.negative ps.positives (positives before) s.positives ∙ ap (min 7) (sym (positives_push before p));
-  negative = sym (ends_push before p);
-  place = sym (place_push before p);
+  last = sym (last_push before p);
 }
 
 some_bound : (o : Option (ℕ × Bool)) → is_some (bound_by o) ≡ is_some o
@@ -156,8 +140,9 @@ some_bound (Some o) = refl
 seen_is : (ps : Parts) (before : List Part) (p : Part) → Stands ps before → seen_faults ps p ≡ part_faults before p
 seen_is ps before p s =
     let twice : is_some (binding_in ps p.variable.letter) ≡ is_some (owner before p.variable.letter) = ap is_some (s.owned p.variable.letter) ∙ some_bound (owner before p.variable.letter) in
+    let row = ap is_some s.last ∙ last_ends before in
     let six = eqb_min 6 ps.positives (positives before) s.positives in
-    λ i. unknown_kinds p.kinds ++ (fault_where (twice i) (Doubled p.variable.place) ++ fault_where (cond p.negative (s.negative i) (six i)) (Shape p.place))
+    λ i. unknown_kinds p.kinds ++ (fault_where (twice i) (Doubled p.variable.place) ++ fault_where (cond p.negative (row i) (six i)) (Shape p.place))
 
 -- what all parts do to a draft
 pub record PartsRead (d e : Draft) (before ps : List Part) : Type 0 where

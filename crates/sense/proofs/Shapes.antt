@@ -1,13 +1,15 @@
 -- The limits of a sequence are kept where none of its parts has a fault. Assumes nothing.
+use Rattle.std.proofs.lemmas.Bool.Decides.{nat_tests}
 use Rattle.std.proofs.Common.{◌≡◌, ℕ, suc, ◌+◌, ◌*◌, ◌≤◌, Bool, true, false, cond, eqb, List, [], ◌∷◌, ◌++◌, map, length, is_some, Some, None, Option, sym, refl, ap, ◌∙◌, arith}
 use Rattle.events.specs.Kind.{kind_named}
 use Rattle.grammar.specs.Syntax.{Word, Part}
 use Rattle.sense.proofs.Nothing.{nils, nils_from, none_where, where_none, all_pass, none_fails}
-use Rattle.sense.proofs.Owners.{or_else, owns, owner_push, positives_push, ends_push}
+use Rattle.sense.proofs.Owners.{owns, owner_push, positives_push, ends_push}
 use Rattle.sense.specs.Sense.{owner, positives, Distinct, Followed, ends_negative, misplaced, fault_where, unknown_kinds, part_faults, parts_faults, last_faults}
 use Rattle.sense.specs.declared.fault.SenseFault.TheVariants.{UnknownKind, Doubled, Shape}
-use Rattle.std.proofs.lemmas.Bool.{both_ways, eqb-false, eq-eqb, ne_eqb, cond-true, cond-false}
+use Rattle.std.proofs.lemmas.Bool.{both_ways, eq-eqb, ne_eqb, cond-true, cond-false}
 use Rattle.std.specs.List.{AllByRecursion}
+use Rattle.std.specs.Option.{option_or}
 
 -- each kind word names a kind
 abbrev pub Known : List Word → Type 0
@@ -53,11 +55,11 @@ all_known : (before ps : List Part) → AllFit before ps → AllByRecursion (λ 
 all_known before [] a = tt
 all_known before (p ∷ ps) a = (a.0.known, all_known (before ++ (p ∷ [])) ps a.1)
 
-some_left : {X : Type 0} (o n : Option X) → is_some o ≡ true → is_some (or_else o n) ≡ true
+some_left : {X : Type 0} (o n : Option X) → is_some o ≡ true → is_some (option_or o n) ≡ true
 some_left None n e = absurd (both_ways _ refl e)
 some_left (Some x) n e = refl
 
-some_right : {X : Type 0} (o n : Option X) → is_some n ≡ true → is_some (or_else o n) ≡ true
+some_right : {X : Type 0} (o n : Option X) → is_some n ≡ true → is_some (option_or o n) ≡ true
 some_right None n e = e
 some_right (Some x) n e = refl
 
@@ -84,36 +86,23 @@ distinct : (before ps : List Part) → AllFit before ps → Distinct (letters ps
 distinct before [] a = tt
 distinct before (p ∷ ps) a = (others (before ++ (p ∷ [])) ps p.variable.letter a.1 (owner_own before p), distinct (before ++ (p ∷ [])) ps a.1)
 
-few_by : (n x : Bool) (a b c : ℕ) → cond n x (eqb a 6) ≡ false → a ≤ 6 → c ≡ cond n a (a + 1) → (c ≤ 6 → c + b ≤ 6) → a + cond n b (1 + b) ≤ 6
-few_by true x a b c e h s rest = omega (arith, rest (omega arith))
-few_by false x a b c e h s rest = let n = eqb-false a 6 e in omega (arith, rest (omega (arith, n)))
-
 few : (before ps : List Part) → AllFit before ps → positives before ≤ 6 → positives before + positives ps ≤ 6
 few before [] a h = omega arith
-few before (p ∷ ps) a h =
-    few_by p.negative (ends_negative before) (positives before) (positives ps) (positives (before ++ (p ∷ []))) a.0.placed h (positives_push before p) (few (before ++ (p ∷ [])) ps a.1)
-
-next_by : (n x y : Bool) → cond n x y ≡ false → x ≡ true → n ≡ false
-next_by true x y e h = absurd (both_ways x e h)
-next_by false x y e h = refl
+few before (p ∷ ps) a h = grind (arith, nat_tests, a.0.placed, positives_push before p, few (before ++ (p ∷ [])) ps a.1)
 
 followed : (before ps : List Part) → AllFit before ps → last_faults ps ≡ [] → Followed ps
 followed before [] a e = tt
 followed before (p ∷ []) a e = none_where p.negative _ e
 followed before (p ∷ r ∷ ps) a e = (
-  (λ n. next_by r.negative (ends_negative (before ++ (p ∷ []))) _ a.1.0.placed (ends_push before p ∙ n)),
+  (λ n. grind (arith, nat_tests, a.1.0.placed, ends_push before p)),
   followed (before ++ (p ∷ [])) (r ∷ ps) a.1 e,
 )
-
-one_by : (n : Bool) (a : ℕ) → 1 ≤ a → 1 ≤ cond n a (1 + a)
-one_by true a h = h
-one_by false a h = omega arith
 
 -- the last part is positive
 pub some_positive : (ps : List Part) → Followed ps → 1 ≤ length ps → 1 ≤ positives ps
 some_positive [] f h = absurd (omega arith)
 some_positive (p ∷ []) f h = rw f (omega arith)
-some_positive (p ∷ r ∷ ps) f h = one_by p.negative (positives (r ∷ ps)) (some_positive (r ∷ ps) f.1 (omega arith))
+some_positive (p ∷ r ∷ ps) f h = grind (arith, nat_tests, some_positive (r ∷ ps) f.1 (omega arith))
 
 -- what holds of parts without a fault
 pub record Shaped (ps : List Part) : Type 0 where
@@ -142,16 +131,7 @@ followed_rest : (p : Part) (ps : List Part) → Followed (p ∷ ps) → Followed
 followed_rest p [] f = tt
 followed_rest p (r ∷ ps) f = f.1
 
-placed_by : (n x : Bool) (a b : ℕ) → (x ≡ true → n ≡ false) → a + cond n b (1 + b) ≤ 6 → cond n x (eqb a 6) ≡ false
-placed_by true true a b next h = absurd (both_ways true (next refl) refl)
-placed_by true false a b next h = refl
-placed_by false x a b next h = ne_eqb a 6 (λ e. omega arith)
-
-few_rest : (n : Bool) (a b c : ℕ) → c ≡ cond n a (a + 1) → a + cond n b (1 + b) ≤ 6 → c + b ≤ 6
-few_rest true a b c e h = omega arith
-few_rest false a b c e h = omega arith
-
-none_else : {X : Type 0} (o : Option X) (b : Bool) (x : X) → is_some o ≡ false → b ≡ false → is_some (or_else o (cond b (Some x) None)) ≡ false
+none_else : {X : Type 0} (o : Option X) (b : Bool) (x : X) → is_some o ≡ false → b ≡ false → is_some (option_or o (cond b (Some x) None)) ≡ false
 none_else None b x e f = ap is_some (cond-false b (Some x) None f)
 none_else (Some y) b x e f = absurd (both_ways _ e refl)
 
@@ -167,9 +147,9 @@ fit_from : (before ps : List Part) → AllByRecursion (λ p. Known p.kinds) ps �
     Leads (ends_negative before) ps → Followed ps → AllFit before ps
 fit_from before [] known free once few next f = tt
 fit_from before (p ∷ ps) known free once few next f = (
-  record { known = known.0; free = free.0; placed = placed_by p.negative (ends_negative before) (positives before) (positives ps) next few },
+  record { known = known.0; free = free.0; placed = grind (arith, nat_tests) },
   fit_from (before ++ (p ∷ [])) ps known.1 (free_more before p (letters ps) free.1 once.0) once.1
-      (few_rest p.negative (positives before) (positives ps) (positives (before ++ (p ∷ []))) (positives_push before p) few) (rw ends_push (leads p ps f)) (followed_rest p ps f),
+      (grind (arith, nat_tests, positives_push before p)) (rw ends_push (leads p ps f)) (followed_rest p ps f),
 )
 
 none_owned : (vs : List ℕ) → AllByRecursion (λ v. is_some (owner [] v) ≡ false) vs
@@ -195,8 +175,7 @@ Half p ps = (length (p ∷ ps) ≤ 2 * positives (p ∷ ps)) × (p.negative ≡ 
 
 half_by : (n m : Bool) (a b : ℕ) → (n ≡ true → m ≡ false) → a ≤ 2 * b → (m ≡ false → a + 1 ≤ 2 * b) →
     (suc a ≤ 2 * cond n b (1 + b)) × (n ≡ false → suc a + 1 ≤ 2 * cond n b (1 + b))
-half_by true m a b next h k = (omega (arith, k (next refl)), λ e. absurd (both_ways true e refl))
-half_by false m a b next h k = (omega arith, λ e. omega arith)
+half_by n m a b next h k = grind (arith, nat_tests)
 
 half : (p : Part) (ps : List Part) → Followed (p ∷ ps) → Half p ps
 half p [] f = rw f (omega arith, λ e. omega arith)

@@ -1,20 +1,20 @@
 -- The draft of a whole text. Assumes nothing.
-use Rattle.std.proofs.Common.{◌≡◌, List, [], ◌++◌, None, Option, sym, ap, ◌∙◌}
+use Rattle.std.proofs.Common.{◌≡◌, ℕ, List, [], ◌++◌, None, Option, sym, ap, ◌∙◌}
 use Rattle.grammar.specs.Syntax.{Syntax}
 use Rattle.sense.proofs.Conditions.{clauses_after, clauses_are}
 use Rattle.sense.proofs.Faulted.{faulted, fault_if_is}
 use Rattle.sense.proofs.Least.{least_append}
 use Rattle.sense.proofs.Owners.{last_is}
 use Rattle.sense.proofs.Sequence.{Stands, stands_none, PartsRead, parts_read}
-use Rattle.sense.specs.Drafted.{no_draft, no_clauses, with_clauses, parts_ended, window_set}
+use Rattle.sense.specs.Drafted.{no_draft, no_clauses, with_clauses, parts_ended_by, parts_ended, window_set}
 use Rattle.sense.specs.Drafting.{parts_drafted, clauses_drafted, drafted}
 use Rattle.sense.specs.Faults.{least_from, least}
 use Rattle.sense.specs.Law.{Lettered}
-use Rattle.sense.specs.Sense.{fault_where, parts_faults, last_faults, clauses_faults, window_faults, sense_faults}
+use Rattle.sense.specs.Sense.{parts_faults, last_faults, clauses_faults, window_faults, sense_faults}
 use Rattle.sense.specs.declared.clauses.Clauses.{Clauses}
 use Rattle.sense.specs.declared.draft.Draft.{Draft}
 use Rattle.sense.specs.declared.fault.SenseFault.{SenseFault}
-use Rattle.sense.specs.declared.fault.SenseFault.TheVariants.{Shape, Window}
+use Rattle.sense.specs.declared.fault.SenseFault.TheVariants.{Window}
 use Rattle.sense.specs.declared.parts.Parts.{Parts}
 
 abbrev sequence : Syntax → Draft
@@ -32,9 +32,7 @@ parts_stand q l = (sequence_read q l).stands
 
 ended_is : (q : Syntax) → Lettered q → parts_ended (sequence q) ≡ faulted (sequence q) (last_faults q.parts)
 ended_is q l =
-    let s = parts_stand q l in
-    fault_if_is (parts_in q).negative (Shape (parts_in q).place) (sequence q) ∙
-    ap (faulted (sequence q)) ((λ i. fault_where (s.negative i) (Shape (s.place i))) ∙ sym (last_is q.parts))
+    ap (λ (o : Option ℕ). parts_ended_by o (sequence q)) (parts_stand q l).last ∙ last_is q.parts (sequence q)
 
 window_is : (d : Draft) (q : Syntax) →
     window_set d (q.window, q.window_place) ≡ faulted (record { parts = d.parts; clauses = d.clauses; window = q.window; fault = d.fault }) (window_faults q)

@@ -1,5 +1,6 @@
 -- The limits of the clauses are kept where none of them has a fault. Assumes nothing.
-use Rattle.std.proofs.Common.{◌≡◌, ℕ, ◌+◌, ◌≤◌, true, false, not, eqb, List, [], ◌∷◌, ◌++◌, is_some, sym, refl, ◌∙◌, arith}
+use Rattle.std.proofs.lemmas.Bool.Decides.{nat_tests}
+use Rattle.std.proofs.Common.{◌≡◌, ℕ, ◌+◌, ◌≤◌, true, false, eqb, List, [], ◌∷◌, ◌++◌, is_some, sym, refl, ◌∙◌, arith}
 use Rattle.grammar.specs.Syntax.{Cond, Clause, Part}
 use Rattle.grammar.specs.Syntax.Clause.{same_key, condition}
 use Rattle.grammar.specs.Syntax.Cond.{test, both, either}
@@ -8,7 +9,7 @@ use Rattle.sense.proofs.Nothing.{nils, nils_from, none_where, where_none, all_pa
 use Rattle.sense.specs.Sense.{owner, test_names, cond_names, clause_names, tests_in, clause_tests, tests_of, negatives, unbound, cond_faults, other_than, differ, clause_faults, clauses_faults}
 use Rattle.sense.specs.declared.fault.SenseFault.TheVariants.{Unbound, ManyTests, TwoNegatives}
 use Rattle.std.proofs.ByRecursion.{All-append, all-has, all_has_itself, All-weaker, has_get_or, has_append_right}
-use Rattle.std.proofs.lemmas.Bool.{eqb-true, eqb-false, eq-eqb, ne_eqb, not-false, not_from_true, or_parts, or_from}
+use Rattle.std.proofs.lemmas.Bool.{ne_eqb}
 use Rattle.std.specs.List.{ContainsAt, AllByRecursion}
 
 -- variables of the sequence
@@ -41,8 +42,7 @@ fit_append ps ms ns n a b x y = (All-append (λ m. is_some (owner ps m.letter) �
 cond_fits : (ps : List Part) (n : ℕ) (c : Cond) → cond_faults ps n c ≡ [] → Fit ps (cond_names c) n (tests_in c)
 cond_fits ps n (test w) e =
     let a = nils (unbound ps (test_names w)) _ e in
-    let other = eqb-false n 24 (none_where (eqb n 24) (ManyTests w.place) a.1) in
-    (bound ps (test_names w) a.0, λ h. omega (arith, other))
+    (bound ps (test_names w) a.0, grind (arith, nat_tests, none_where (eqb n 24) (ManyTests w.place) a.1))
 cond_fits ps n (both a b) e =
     let p = nils (cond_faults ps n a) _ e in
     fit_append ps (cond_names a) (cond_names b) n (tests_in a) (tests_in b) (cond_fits ps n a p.0) (cond_fits ps (n + tests_in a) b p.1)
@@ -63,11 +63,11 @@ cond_clean ps n (either a b) all h =
 
 same_all : (v : ℕ) (us : List ℕ) → other_than v us ≡ false → AllByRecursion (λ u. v ≡ u) us
 same_all v [] e = tt
-same_all v (u ∷ us) e = let p = or_parts (not (eqb v u)) (other_than v us) e in (eqb-true v u (not-false (eqb v u) p.0), same_all v us p.1)
+same_all v (u ∷ us) e = (grind (arith, nat_tests), same_all v us (grind (arith, nat_tests)))
 
 all_same : (v : ℕ) (us : List ℕ) → AllByRecursion (λ u. v ≡ u) us → other_than v us ≡ false
 all_same v [] a = refl
-all_same v (u ∷ us) a = or_from (not (eqb v u)) (other_than v us) (not_from_true (eqb v u) (eq-eqb v u a.0)) (all_same v us a.1)
+all_same v (u ∷ us) a = grind (arith, nat_tests, a.0, all_same v us a.1)
 
 none_single : Single []
 none_single u v h k = absurd (omega (arith, h.1))

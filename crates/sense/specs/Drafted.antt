@@ -1,5 +1,5 @@
 -- What each piece of a text does to a draft. Assumes nothing.
-use Rattle.std.specs.Prelude.{ℕ, ◌+◌, Bool, true, false, cond, not, ◌&&◌, ◌||◌, List, replicate, is_some, Some, None, Option, ◌==◌, nat_le, nat_lt, slice_index_or, slice_set}
+use Rattle.std.specs.Prelude.{ℕ, ◌+◌, Bool, true, false, cond, not, ◌&&◌, List, replicate, is_some, Some, None, Option, ◌==◌, nat_le, nat_lt, slice_index_or, slice_set}
 use Rattle.events.specs.Kind.{kind_named}
 use Rattle.grammar.specs.declared.test.Item.{Item}
 use Rattle.grammar.specs.declared.test.Item.TheVariants as item
@@ -9,6 +9,8 @@ use Rattle.grammar.specs.declared.test.Side.TheVariants.{Alone, Sum, Difference}
 use Rattle.grammar.specs.declared.test.Test.{Test}
 use Rattle.sense.specs.Faults.{noted}
 use Rattle.sense.specs.declared.clauses.Clauses.{Clauses}
+use Rattle.sense.specs.declared.clauses.Negatives.{Negatives}
+use Rattle.sense.specs.declared.clauses.Negatives.TheVariants as negatives
 use Rattle.sense.specs.declared.clauses.Step.{Step}
 use Rattle.sense.specs.declared.clauses.Step.TheVariants as step
 use Rattle.sense.specs.declared.draft.Draft.{Draft}
@@ -26,10 +28,10 @@ abbrev pub blank : Part
 blank = record { negative = false; kinds = no_kinds; variable = 0 }
 
 abbrev pub no_parts : Parts
-no_parts = record { kept = replicate 12 blank; len = 0; bound = replicate 256 None; positives = 0; kinds = no_kinds; negative = false; place = 0 }
+no_parts = record { kept = replicate 12 blank; len = 0; bound = replicate 256 None; positives = 0; kinds = no_kinds; last_negative = None }
 
 abbrev pub no_clauses : Clauses
-no_clauses = record { key = false; steps = replicate 47 step.And; used = 0; ends = replicate 24 0; len = 0; tests = 0; negative = None; mixed = false }
+no_clauses = record { key = false; steps = replicate 47 step.And; used = 0; ends = replicate 24 0; len = 0; tests = 0; negatives = negatives.None }
 
 abbrev pub no_draft : Draft
 no_draft = record { parts = no_parts; clauses = no_clauses; window = 0; fault = None }
@@ -59,7 +61,7 @@ with_clauses d cs = record { parts = d.parts; clauses = cs; window = d.window; f
 -- ---- parts
 
 abbrev pub with_kinds : Parts → List Bool → Parts
-with_kinds ps kinds = record { kept = ps.kept; len = ps.len; bound = ps.bound; positives = ps.positives; kinds = kinds; negative = ps.negative; place = ps.place }
+with_kinds ps kinds = record { kept = ps.kept; len = ps.len; bound = ps.bound; positives = ps.positives; kinds = kinds; last_negative = ps.last_negative }
 
 abbrev pub part_begun : Draft → Draft
 part_begun d = with_parts d (with_kinds d.parts no_kinds)
@@ -88,13 +90,12 @@ part_kept ps place negative letter = record {
   bound = bound_with (binding_in ps letter) ps.bound letter (record { part = ps.len; negative = negative });
   positives = cond negative ps.positives (one_more 7 ps.positives);
   kinds = ps.kinds;
-  negative = negative;
-  place = place;
+  last_negative = cond negative (Some place) None;
 }
 
 -- a second negative in a row, or a seventh positive
 abbrev pub misplaced_in : Parts → Bool → Bool
-misplaced_in ps negative = cond negative ps.negative (ps.positives == 6)
+misplaced_in ps negative = cond negative (is_some ps.last_negative) (ps.positives == 6)
 
 -- a part at this place, with a variable at its own place
 abbrev pub part_ended : Draft → ℕ → Bool → ℕ × ℕ → Draft
@@ -103,24 +104,37 @@ part_ended d place negative v =
     (part_kept d.parts place negative v.0)
 
 -- the last part may not be negative
+abbrev pub parts_ended_by : Option ℕ → Draft → Draft
+parts_ended_by None d = d
+parts_ended_by (Some place) d = with_fault d (Shape place)
+
 abbrev pub parts_ended : Draft → Draft
-parts_ended d = fault_if d.parts.negative (Shape d.parts.place) d
+parts_ended d = parts_ended_by d.parts.last_negative d
 
 -- ---- clauses
 
 abbrev pub key_asked : Clauses → Clauses
-key_asked cs = record { key = true; steps = cs.steps; used = cs.used; ends = cs.ends; len = cs.len; tests = cs.tests; negative = cs.negative; mixed = cs.mixed }
+key_asked cs = record { key = true; steps = cs.steps; used = cs.used; ends = cs.ends; len = cs.len; tests = cs.tests; negatives = cs.negatives }
 
-abbrev pub with_negative : Clauses → Option ℕ → Bool → Clauses
-with_negative cs negative mixed = record { key = cs.key; steps = cs.steps; used = cs.used; ends = cs.ends; len = cs.len; tests = cs.tests; negative = negative; mixed = mixed }
+abbrev pub with_negatives : Clauses → Negatives → Clauses
+with_negatives cs ns = record { key = cs.key; steps = cs.steps; used = cs.used; ends = cs.ends; len = cs.len; tests = cs.tests; negatives = ns }
 
 abbrev pub clause_begun : Clauses → Clauses
-clause_begun cs = with_negative cs None false
+clause_begun cs = with_negatives cs negatives.None
 
--- a negative variable is used
-abbrev pub negative_used : Option ℕ → Clauses → ℕ → Clauses
-negative_used None cs letter = with_negative cs (Some letter) cs.mixed
-negative_used (Some v) cs letter = with_negative cs (Some v) (cs.mixed || not (v == letter))
+-- the negative variables that are used, with one more
+abbrev pub negatives_with : Negatives → ℕ → Negatives
+negatives_with negatives.None v = negatives.One v
+negatives_with (negatives.One u) v = cond (u == v) (negatives.One u) negatives.Several
+negatives_with negatives.Several v = negatives.Several
+
+abbrev pub negative_used : Clauses → ℕ → Clauses
+negative_used cs letter = with_negatives cs (negatives_with cs.negatives letter)
+
+abbrev pub are_several : Negatives → Bool
+are_several negatives.None = false
+are_several (negatives.One v) = false
+are_several negatives.Several = true
 
 abbrev pub step_kept : Clauses → Step → Clauses
 step_kept cs s = record {
@@ -130,12 +144,11 @@ step_kept cs s = record {
   ends = cs.ends;
   len = cs.len;
   tests = cs.tests;
-  negative = cs.negative;
-  mixed = cs.mixed;
+  negatives = cs.negatives;
 }
 
 abbrev pub test_counted : Clauses → Clauses
-test_counted cs = record { key = cs.key; steps = cs.steps; used = cs.used; ends = cs.ends; len = cs.len; tests = one_more 25 cs.tests; negative = cs.negative; mixed = cs.mixed }
+test_counted cs = record { key = cs.key; steps = cs.steps; used = cs.used; ends = cs.ends; len = cs.len; tests = one_more 25 cs.tests; negatives = cs.negatives }
 
 abbrev pub end_kept : Clauses → Clauses
 end_kept cs = record {
@@ -145,12 +158,11 @@ end_kept cs = record {
   ends = kept_with 24 cs.ends cs.len cs.used;
   len = one_more 24 cs.len;
   tests = cs.tests;
-  negative = cs.negative;
-  mixed = cs.mixed;
+  negatives = cs.negatives;
 }
 
 abbrev pub clause_ended : Draft → ℕ → Draft
-clause_ended d place = with_clauses (fault_if d.clauses.mixed (TwoNegatives place) d) (end_kept d.clauses)
+clause_ended d place = with_clauses (fault_if (are_several d.clauses.negatives) (TwoNegatives place) d) (end_kept d.clauses)
 
 -- two conditions are joined
 abbrev pub joined : Draft → Step → Draft
@@ -159,7 +171,7 @@ joined d s = with_clauses d (step_kept d.clauses s)
 -- a variable is used
 abbrev pub name_used_by : Option Binding → Draft → Name → Draft
 name_used_by None d n = with_fault d (Unbound n.place)
-name_used_by (Some b) d n = cond b.negative (with_clauses d (negative_used d.clauses.negative d.clauses n.letter)) d
+name_used_by (Some b) d n = cond b.negative (with_clauses d (negative_used d.clauses n.letter)) d
 
 abbrev pub name_used : Draft → Name → Draft
 name_used d n = name_used_by (binding_in d.parts n.letter) d n

@@ -1,6 +1,7 @@
 -- Faults of sense, and which comes first. Assumes nothing.
-use Rattle.std.specs.Prelude.{◌≡◌, ℕ, ◌<◌, ◌≤◌, Bool, cond, ◌&&◌, ◌||◌, ◌⊎◌, List, [], ◌∷◌, Some, None, Option, ◌==◌, nat_lt}
+use Rattle.std.specs.Prelude.{◌≡◌, ℕ, ◌<◌, ◌≤◌, Bool, cond, ◌&&◌, ◌||◌, ◌⊎◌, List, Some, None, Option, ◌==◌, nat_lt}
 use Rattle.sense.specs.declared.fault.SenseFault.{SenseFault}
+use Rattle.std.specs.List.{fold}
 use Rattle.sense.specs.declared.fault.SenseFault.TheVariants.{UnknownKind, Doubled, Unbound, Shape, ManyTests, TwoNegatives, Window}
 
 abbrev pub number_of : SenseFault → ℕ
@@ -32,8 +33,7 @@ noted (Some g) f = Some (cond (comes_before f g) f g)
 
 -- the first of some faults, in whatever order they stand
 abbrev pub least_from : Option SenseFault → List SenseFault → Option SenseFault
-least_from so_far [] = so_far
-least_from so_far (f ∷ fs) = least_from (noted so_far f) fs
+least_from so_far fs = fold noted so_far fs
 
 abbrev pub least : List SenseFault → Option SenseFault
 least fs = least_from None fs

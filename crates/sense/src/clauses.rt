@@ -1,7 +1,8 @@
 // The clauses of a draft.
 ghost use Rattle.std.specs.Prelude.{◌≡◌};
-ghost use Rattle.sense.specs.Drafted.{no_clauses, key_asked, clause_begun, negative_used, step_kept, test_counted, end_kept};
+ghost use Rattle.sense.specs.Drafted.{no_clauses, key_asked, clause_begun, negatives_with, negative_used, step_kept, test_counted, end_kept};
 
+use crate::room::keep;
 use grammar::Test;
 
 // Conditions are kept in postfix order: a test, or what joins the two conditions before it. Tests name events by the number of their part.
@@ -10,6 +11,26 @@ pub enum Step {
     Test(Test<u8>),
     And,
     Or,
+}
+
+// The negative variables that a clause has used so far.
+#[derive(Clone, Copy, PartialEq, Eq, Debug)]
+pub enum Negatives {
+    None,
+    One(u8),
+    Several,
+}
+
+impl Negatives {
+    pub(crate) fn with(self, letter: u8) -> Negatives
+        ensures { result ≡ negatives_with self letter }
+    {
+        match self {
+            Negatives::None => Negatives::One(letter),
+            Negatives::One(first) if first == letter => self,
+            Negatives::One(_) | Negatives::Several => Negatives::Several,
+        }
+    }
 }
 
 #[derive(Clone, Copy)]
@@ -24,9 +45,8 @@ pub struct Clauses {
     pub len: u8,
     // how many tests there were; there is no counting past 25
     pub tests: u8,
-    // the first negative variable of the clause that is being read, and whether there is another
-    pub negative: Option<u8>,
-    pub mixed: bool,
+    // of the clause that is being read
+    pub negatives: Negatives,
 }
 
 impl Clauses {
@@ -40,8 +60,7 @@ impl Clauses {
             ends: [0; 24],
             len: 0,
             tests: 0,
-            negative: None,
-            mixed: false,
+            negatives: Negatives::None,
         }
     }
 
@@ -54,27 +73,20 @@ impl Clauses {
     pub(crate) fn begin(&mut self)
         ensures { self.new ≡ clause_begun self.old }
     {
-        self.negative = None;
-        self.mixed = false;
+        self.negatives = Negatives::None;
     }
 
     // The clause uses this negative variable.
     pub(crate) fn use_negative(&mut self, letter: u8)
-        ensures { self.new ≡ negative_used self.old.negative self.old letter }
+        ensures { self.new ≡ negative_used self.old letter }
     {
-        match self.negative {
-            None => self.negative = Some(letter),
-            Some(first) => self.mixed = self.mixed || first != letter,
-        }
+        self.negatives = self.negatives.with(letter);
     }
 
     pub(crate) fn keep_step(&mut self, step: Step)
         ensures { self.new ≡ step_kept self.old step }
     {
-        if self.used < 47 {
-            self.steps[self.used as usize] = step;
-            self.used += 1;
-        }
+        keep(&mut self.steps, &mut self.used, step);
     }
 
     pub(crate) fn count_test(&mut self)
@@ -88,9 +100,6 @@ impl Clauses {
     pub(crate) fn keep_end(&mut self)
         ensures { self.new ≡ end_kept self.old }
     {
-        if self.len < 24 {
-            self.ends[self.len as usize] = self.used;
-            self.len += 1;
-        }
+        keep(&mut self.ends, &mut self.len, self.used);
     }
 }

@@ -2,10 +2,10 @@
 ghost use Rattle.std.specs.Prelude.{◌≡◌};
 ghost use Rattle.sense.specs.Drafted.{no_draft, with_fault, part_begun, kind_added, part_ended, parts_ended, with_clauses, key_asked, clause_begun, clause_ended, joined, name_used, item_used, side_used, part_number, binding_in, item_resolved, side_resolved, test_kept, test_added, window_set};
 
-use crate::clauses::{Clauses, Step};
+use crate::clauses::{Clauses, Negatives, Step};
 use crate::fault::{SenseFault, earlier};
 use crate::parts::Parts;
-use events::kind_named;
+use events::Kind;
 use grammar::{Item, Name, Side, Test};
 
 #[derive(Clone, Copy)]
@@ -45,7 +45,7 @@ impl Draft {
     pub fn add_kind(&mut self, word: &[u8], place: usize)
         ensures { self.new ≡ kind_added self.old (word.now, place) }
     {
-        match kind_named(word) {
+        match Kind::named(word) {
             Some(kind) => self.parts.set_kind(kind),
             None => self.note(SenseFault::UnknownKind(place)),
         }
@@ -55,21 +55,22 @@ impl Draft {
     pub fn end_part(&mut self, place: usize, negative: bool, variable: (u8, usize))
         ensures { self.new ≡ part_ended self.old place negative variable }
     {
-        if self.parts.binding(variable.0).is_some() {
-            self.note(SenseFault::Doubled(variable.1));
+        let (letter, letter_place) = variable;
+        if self.parts.binding(letter).is_some() {
+            self.note(SenseFault::Doubled(letter_place));
         }
         if self.parts.misplaces(negative) {
             self.note(SenseFault::Shape(place));
         }
-        self.parts.keep(place, negative, variable.0);
+        self.parts.keep(place, negative, letter);
     }
 
     // All parts have been read.
     pub fn end_parts(&mut self)
         ensures { self.new ≡ parts_ended self.old }
     {
-        if self.parts.negative {
-            self.note(SenseFault::Shape(self.parts.place));
+        if let Some(place) = self.parts.last_negative {
+            self.note(SenseFault::Shape(place));
         }
     }
 
@@ -89,7 +90,7 @@ impl Draft {
     pub fn end_clause(&mut self, place: usize)
         ensures { self.new ≡ clause_ended self.old place }
     {
-        if self.clauses.mixed {
+        if self.clauses.negatives == Negatives::Several {
             self.note(SenseFault::TwoNegatives(place));
         }
         self.clauses.keep_end();
@@ -107,20 +108,16 @@ impl Draft {
     {
         match self.parts.binding(name.letter) {
             None => self.note(SenseFault::Unbound(name.place)),
-            Some(binding) => {
-                if binding.negative {
-                    self.clauses.use_negative(name.letter);
-                }
-            }
+            Some(binding) if binding.negative => self.clauses.use_negative(name.letter),
+            Some(_) => {}
         }
     }
 
     fn use_item(&mut self, item: Item<Name>)
         ensures { self.new ≡ item_used self.old item }
     {
-        match item {
-            Item::Reading(name, _) => self.use_name(name),
-            Item::Number(_) => {}
+        if let Item::Reading(name, _) = item {
+            self.use_name(name);
         }
     }
 
@@ -160,9 +157,10 @@ impl Draft {
     pub fn set_window(&mut self, window: (u32, usize))
         ensures { self.new ≡ window_set self.old window }
     {
-        self.window = window.0;
-        if window.0 < 1 || window.0 > 864_000 {
-            self.note(SenseFault::Window(window.1));
+        let (window, place) = window;
+        self.window = window;
+        if !(1..=864_000).contains(&window) {
+            self.note(SenseFault::Window(place));
         }
     }
 }

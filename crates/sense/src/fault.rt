@@ -2,7 +2,7 @@
 ghost use Rattle.std.specs.Prelude.{◌≡◌};
 ghost use Rattle.sense.specs.Faults.{number_of, place_of, noted};
 
-#[derive(Clone, Copy)]
+#[derive(Clone, Copy, PartialEq, Eq, Debug)]
 pub enum SenseFault {
     // a word that is no kind of event
     UnknownKind(usize),
@@ -39,13 +39,13 @@ impl SenseFault {
         ensures { result ≡ place_of self }
     {
         match self {
-            SenseFault::UnknownKind(place) => place,
-            SenseFault::Doubled(place) => place,
-            SenseFault::Unbound(place) => place,
-            SenseFault::Shape(place) => place,
-            SenseFault::ManyTests(place) => place,
-            SenseFault::TwoNegatives(place) => place,
-            SenseFault::Window(place) => place,
+            SenseFault::UnknownKind(place)
+            | SenseFault::Doubled(place)
+            | SenseFault::Unbound(place)
+            | SenseFault::Shape(place)
+            | SenseFault::ManyTests(place)
+            | SenseFault::TwoNegatives(place)
+            | SenseFault::Window(place) => place,
         }
     }
 }
@@ -57,11 +57,9 @@ pub(crate) fn earlier(so_far: Option<SenseFault>, fault: SenseFault) -> Option<S
     let Some(first) = so_far else {
         return Some(fault);
     };
-    if fault.place() < first.place() {
-        return Some(fault);
+    if (fault.place(), fault.number()) < (first.place(), first.number()) {
+        Some(fault)
+    } else {
+        Some(first)
     }
-    if fault.place() == first.place() && fault.number() < first.number() {
-        return Some(fault);
-    }
-    Some(first)
 }

@@ -9,8 +9,9 @@ mod law;
 mod part;
 mod parts;
 mod resolved;
+mod room;
 
-pub use clauses::{Clauses, Step};
+pub use clauses::{Clauses, Negatives, Step};
 pub use draft::Draft;
 pub use fault::SenseFault;
 pub use law::sense_holds;

@@ -1,8 +1,11 @@
 // The parts of a draft.
-ghost use Rattle.std.specs.Prelude.{◌≡◌, ◌<◌, true, slice_set};
+ghost use Rattle.std.specs.Prelude.{◌≡◌, true, slice_set};
+ghost use Rattle.events.specs.Kind.{kind_number};
 ghost use Rattle.sense.specs.Drafted.{no_parts, no_kinds, with_kinds, binding_in, misplaced_in, part_kept};
 
 use crate::part::Part;
+use crate::room::keep;
+use events::Kind;
 
 // The part that has a variable, by its number from 0.
 #[derive(Clone, Copy)]
@@ -22,9 +25,8 @@ pub struct Parts {
     pub positives: u8,
     // the kinds of the part that is being read
     pub kinds: [bool; 16],
-    // of the last part
-    pub negative: bool,
-    pub place: usize,
+    // the place of the last part, if that one is negative
+    pub last_negative: Option<usize>,
 }
 
 // What stands where no part is.
@@ -44,10 +46,10 @@ impl Parts {
             bound: [None; 256],
             positives: 0,
             kinds: [false; 16],
-            negative: false,
-            place: 0,
+            last_negative: None,
         }
     }
+
     // The part that has this variable.
     pub(crate) fn binding(&self, letter: u8) -> Option<Binding>
         ensures { result ≡ binding_in self.now letter }
@@ -60,7 +62,7 @@ impl Parts {
         ensures { result ≡ misplaced_in self.now negative }
     {
         if negative {
-            self.negative
+            self.last_negative.is_some()
         } else {
             self.positives == 6
         }
@@ -72,9 +74,8 @@ impl Parts {
         self.kinds = [false; 16];
     }
 
-    pub(crate) fn set_kind(&mut self, kind: u8)
-        requires { kind < 16 }
-        ensures { self.new ≡ with_kinds self.old (slice_set self.old.kinds kind true) }
+    pub(crate) fn set_kind(&mut self, kind: Kind)
+        ensures { self.new ≡ with_kinds self.old (slice_set self.old.kinds (kind_number kind) true) }
     {
         self.kinds[kind as usize] = true;
     }
@@ -83,25 +84,20 @@ impl Parts {
     pub(crate) fn keep(&mut self, place: usize, negative: bool, letter: u8)
         ensures { self.new ≡ part_kept self.old place negative letter }
     {
-        if self.bound[letter as usize].is_none() {
-            self.bound[letter as usize] = Some(Binding {
-                part: self.len,
-                negative,
-            });
-        }
-        if self.len < 12 {
-            let kinds = self.kinds;
-            self.kept[self.len as usize] = Part {
-                negative,
-                kinds,
-                variable: letter,
-            };
-            self.len += 1;
-        }
+        let binding = Binding {
+            part: self.len,
+            negative,
+        };
+        self.bound[letter as usize].get_or_insert(binding);
+        let part = Part {
+            negative,
+            kinds: self.kinds,
+            variable: letter,
+        };
+        keep(&mut self.kept, &mut self.len, part);
         if !negative && self.positives < 7 {
             self.positives += 1;
         }
-        self.negative = negative;
-        self.place = place;
+        self.last_negative = negative.then_some(place);
     }
 }

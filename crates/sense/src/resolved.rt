@@ -9,10 +9,7 @@ impl Parts {
     fn number_of(&self, letter: u8) -> u8
         ensures { result ≡ part_number (binding_in self.now letter) }
     {
-        match self.binding(letter) {
-            Some(binding) => binding.part,
-            None => 0,
-        }
+        self.binding(letter).map_or(0, |binding| binding.part)
     }
 
     fn resolve_item(&self, item: Item<Name>) -> Item<u8>

@@ -17,8 +17,7 @@ impl fmt::Display for Numbered {
     ghost output = { λ x. Some (numbered_line x) };
 
     fn fmt<W: fmt::Write>(&self, f: &mut fmt::Formatter<W>) -> fmt::Result {
-        let number = self.number;
-        let event = self.event;
+        let Numbered { number, event } = *self;
         write!(f, "{number} {event}")
     }
 }

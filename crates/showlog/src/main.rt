@@ -16,6 +16,5 @@ fn main(rt: HostRuntime) -> anyhow::Result<()> {
 }
 
 fn run(rt: &HostRuntime) -> anyhow::Result<()> {
-    let mut chunk = vec![in rt.alloc(); 0u8; CHUNK]?;
-    show(rt.alloc(), &mut rt.stdin(), &mut rt.stdout(), &mut chunk)
+    show(rt.alloc(), &mut rt.stdin(), &mut rt.stdout(), CHUNK)
 }

@@ -1,27 +1,26 @@
 // A log as a stream: it is read and described in chunks, so that memory does not grow with it.
-ghost use Rattle.std.specs.Prelude.{◌≤◌, length, IfOk};
-
 use crate::lines::End;
 use crate::text::describe;
 use std::alloc::Global;
-use std::io;
 use std::io::{Read, Write};
 
-// Describes the log that `input` gives, through a chunk that has room for whole records alone.
+// Describes the log that `input` gives, through chunks of `size` bytes, which are whole records.
 pub fn show(
     heap: Global,
     input: &mut impl Read,
     out: &mut impl Write,
-    chunk: &mut [u8],
+    size: usize,
 ) -> anyhow::Result<()> {
+    let mut chunk = Vec::new(heap);
     let mut text = String::new(heap);
     let mut records = 0;
     for _ in 0..u64::MAX {
-        let filled = fill(input, chunk)?;
+        chunk.clear();
+        let filled = input.by_ref().take(size as u64).read_to_end(&mut chunk)?;
         text.clear();
-        records = describe(&mut text, &chunk[0..filled], records)?;
+        records = describe(&mut text, chunk.as_slice(), records)?;
         out.write_all(text.as_bytes())?;
-        if filled < chunk.len() {
+        if filled < size {
             break;
         }
     }
@@ -30,25 +29,11 @@ pub fn show(
     Ok(())
 }
 
-// Reads until the buffer is full or the input ends, and answers how many bytes there are.
-fn fill(input: &mut impl Read, buffer: &mut [u8]) -> io::Result<usize>
-    ensures { IfOk result (λ n. n ≤ length buffer.old) }
-{
-    let mut filled = 0;
-    while filled < buffer.len() {
-        let count = input.read(&mut buffer[filled..])?;
-        if count == 0 {
-            break;
-        }
-        filled += count;
-    }
-    Ok(filled)
-}
-
 #[cfg(test)]
 mod tests {
     use super::*;
     use std::test::Fail;
+    use std::{array, io};
 
     // Gives at most `most` bytes at a call.
     #[derive(Drop)]
@@ -60,10 +45,7 @@ mod tests {
     impl Read for Slow<'_> {
         fn read(&mut self, buf: &mut [u8]) -> io::Result<usize> {
             let most = self.most.min(buf.len());
-            let mut part = self.rest;
-            let count = part.read(&mut buf[0..most])?;
-            self.rest = part;
-            Ok(count)
+            self.rest.read(&mut buf[0..most])
         }
     }
 
@@ -84,26 +66,19 @@ mod tests {
     #[test]
     fn chunks_make_the_whole(rt: HostRuntime) -> Result<(), Fail> {
         let heap = rt.alloc();
-        let mut log = [0; 120];
-        let mut next = 0u8;
-        for byte in log.iter_mut() {
-            *byte = next;
-            next = next.wrapping_add(1);
-        }
+        let log: [u8; 120] = array::from_fn(|i| i as u8);
         for (len, last) in LENGTHS {
             assert!(rt; len <= log.len());
             let mut whole = Vec::new(heap);
-            let mut large = [0; 240];
-            show(heap, &mut &log[0..len], &mut whole, &mut large)?;
+            show(heap, &mut &log[0..len], &mut whole, 240)?;
             assert!(rt; whole.ends_with(last.as_bytes()));
             for most in [1, 7, 24, 47, 100] {
                 let mut pieces = Vec::new(heap);
-                let mut small = [0; 48];
                 let mut input = Slow {
                     rest: &log[0..len],
                     most,
                 };
-                show(heap, &mut input, &mut pieces, &mut small)?;
+                show(heap, &mut input, &mut pieces, 48)?;
                 assert!(rt; pieces.as_slice() == whole.as_slice());
             }
         }

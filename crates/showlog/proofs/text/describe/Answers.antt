@@ -1,10 +1,10 @@
-use Rattle.std.proofs.Common.{◌≡◌, ℕ, List, [], ◌∷◌, ◌++◌, map, Ok, Err, string_bytes, ap, ◌∙◌, rules}
+use Rattle.std.proofs.Common.{◌≡◌, List, ◌++◌, map, Ok, Err, string_bytes, ap, ◌∙◌, rules}
 use Rattle.events.proofs.Logs.{whole_log}
 use Rattle.events.specs.Log.{Told, told, unread, log_of}
 use Rattle.events.specs.Record.{fields}
-use Rattle.showlog.proofs.Described.{text_more, count_more}
+use Rattle.showlog.proofs.Described.{one_more}
 use Rattle.showlog.proofs.text.describe.Goals as goal
-use Rattle.showlog.specs.Lines.{line, more, log_text, records_after}
+use Rattle.showlog.specs.Lines.{more, log_text, records_after}
 
 pub returns : goal.returns
 returns c =
@@ -17,20 +17,10 @@ returns c =
 
 pub loop-item-preserved : goal.loop-item-preserved
 loop-item-preserved c =
-    let inv = c.loop-item.invariant in
-    let t : Told = Err c.in-Err.refusal in
-    let number : c.saturating_add-number.result ≡ more c.loop-item.records = search rules in
-    let grown = c.in_ok-writeln-in-Err.ensures.bytes ∙ ap (λ (k : ℕ). string_bytes c.loop-item.text ++ (line k t ++ (10 ∷ []))) number in (
-      text_more _ _ _ _ c.loop-item.records c.loop-item.yielded c.in-Some.item t (ap told c.in-Err.is) inv.0 inv.1 grown,
-      count_more _ _ c.loop-item.yielded c.in-Some.item t (ap told c.in-Err.is) inv.1,
-    )
+    one_more _ _ _ _ c.loop-item.records _ c.loop-item.yielded c.in-Some.item (Err c.in-Err.refusal) (ap told c.in-Err.is) c.loop-item.invariant (search rules) c.in_ok-writeln-in-Err.ensures.bytes
 
 pub loop-item-preserved-in-Ok : goal.loop-item-preserved-in-Ok
 loop-item-preserved-in-Ok c =
-    let inv = c.loop-item.invariant in
-    let t : Told = Ok (fields c.in-Ok.event) in
     let number : c.saturating_add-number.result ≡ more c.loop-item.records = search rules in
-    let grown = c.in_ok-writeln-in-Ok.ensures.bytes ∙ ap (λ (k : ℕ). string_bytes c.loop-item.text ++ (line k t ++ (10 ∷ []))) number in (
-      text_more _ _ _ _ c.loop-item.records c.loop-item.yielded c.in-Some.item t (ap told c.in-Ok.is) inv.0 inv.1 grown,
-      number ∙ count_more _ _ c.loop-item.yielded c.in-Some.item t (ap told c.in-Ok.is) inv.1,
-    )
+    let next = one_more _ _ _ _ c.loop-item.records _ c.loop-item.yielded c.in-Some.item (Ok (fields c.in-Ok.event)) (ap told c.in-Ok.is) c.loop-item.invariant number c.in_ok-writeln-in-Ok.ensures.bytes in
+    (next.0, number ∙ next.1)
