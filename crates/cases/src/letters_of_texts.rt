@@ -1,5 +1,5 @@
 // The letters of query texts.
-use letters::{Class, Symbol, Token, check_letters, class_of, next_token, number_value};
+use letters::{Class, Symbol, Token, Tokens, check_letters, class_of, number_value};
 
 // A text, and the number and place of its fault, if it has one.
 const TEXTS: [(&[u8], Option<(u8, usize)>); 22] = [
@@ -57,58 +57,62 @@ fn length_comes_first(rt: HostRuntime) {
 
 const CUT: &[u8] = b" 5AND WITHIN5\t! = !== =< <>\r\nx.r0--5<=12ab # ";
 
-// The tokens of CUT: place, length, and w for a word, n for a number, s for a symbol, ? for a stray byte.
-const TOKENS: [(usize, usize, u8); 22] = [
-    (1, 1, b'n'),
-    (2, 3, b'w'),
-    (6, 7, b'w'),
-    (14, 1, b's'),
-    (16, 1, b's'),
-    (18, 2, b's'),
-    (20, 1, b's'),
-    (22, 1, b's'),
-    (23, 1, b's'),
-    (25, 1, b's'),
-    (26, 1, b's'),
-    (29, 1, b'w'),
-    (30, 1, b's'),
-    (31, 2, b'w'),
-    (33, 1, b's'),
-    (34, 1, b's'),
-    (35, 1, b'n'),
-    (36, 2, b's'),
-    (38, 2, b'n'),
-    (40, 2, b'w'),
-    (43, 1, b'?'),
-    (45, 0, b'.'),
+#[derive(Clone, Copy, PartialEq, Eq, Debug)]
+enum Shape {
+    Word,
+    Number,
+    Mark,
+    Stray,
+}
+
+// The tokens of CUT: place, length and shape.
+const TOKENS: [(usize, usize, Shape); 21] = [
+    (1, 1, Shape::Number),
+    (2, 3, Shape::Word),
+    (6, 7, Shape::Word),
+    (14, 1, Shape::Mark),
+    (16, 1, Shape::Mark),
+    (18, 2, Shape::Mark),
+    (20, 1, Shape::Mark),
+    (22, 1, Shape::Mark),
+    (23, 1, Shape::Mark),
+    (25, 1, Shape::Mark),
+    (26, 1, Shape::Mark),
+    (29, 1, Shape::Word),
+    (30, 1, Shape::Mark),
+    (31, 2, Shape::Word),
+    (33, 1, Shape::Mark),
+    (34, 1, Shape::Mark),
+    (35, 1, Shape::Number),
+    (36, 2, Shape::Mark),
+    (38, 2, Shape::Number),
+    (40, 2, Shape::Word),
+    (43, 1, Shape::Stray),
 ];
 
-fn kind_of(token: Token) -> u8 {
+fn shape_of(token: Token) -> Shape {
     match token {
-        Token::Word(_) => b'w',
-        Token::Number(_) => b'n',
-        Token::Mark(_) => b's',
-        Token::Stray(_) => b'?',
+        Token::Word(_) => Shape::Word,
+        Token::Number(_) => Shape::Number,
+        Token::Mark(_) => Shape::Mark,
+        Token::Stray(_) => Shape::Stray,
     }
+}
+
+// The place of the next token, how many bytes are left behind it, and its shape.
+fn next_of(tokens: &mut Tokens) -> Option<(usize, usize, Shape)> {
+    let token = tokens.next()?;
+    Some((token.place, tokens.rest().len(), shape_of(token.token)))
 }
 
 #[test]
 fn texts_are_cut(rt: HostRuntime) {
-    let mut rest = CUT;
-    for (place, len, kind) in TOKENS {
-        match next_token(rest, CUT.len()) {
-            Some((token, after)) => {
-                assert_eq!(rt; token.place, place);
-                assert_eq!(rt; kind_of(token.token), kind);
-                assert_eq!(rt;
-                    after.len(),
-                    CUT.len().saturating_sub(place).saturating_sub(len)
-                );
-                rest = after;
-            }
-            None => assert_eq!(rt; kind, b'.'),
-        }
+    let mut tokens = Tokens::new(CUT);
+    for (place, len, shape) in TOKENS {
+        let left = CUT.len().saturating_sub(place).saturating_sub(len);
+        assert_eq!(rt; next_of(&mut tokens), Some((place, left, shape)));
     }
+    assert_eq!(rt; next_of(&mut tokens), None);
 }
 
 // A text of one symbol.
@@ -130,19 +134,19 @@ const SYMBOLS: [(&[u8], Symbol); 15] = [
     (b">=", Symbol::AtLeast),
 ];
 
+// The symbol that a text has, if it has one token and that is a symbol.
+fn only_symbol(text: &[u8]) -> Option<Symbol> {
+    let mut tokens = Tokens::new(text);
+    match tokens.next()?.token {
+        Token::Mark(symbol) if tokens.rest().is_empty() => Some(symbol),
+        _ => None,
+    }
+}
+
 #[test]
 fn symbols_are_told_apart(rt: HostRuntime) {
     for (text, expected) in SYMBOLS {
-        match next_token(text, text.len()) {
-            Some((token, after)) => {
-                assert!(rt; after.is_empty());
-                match token.token {
-                    Token::Mark(symbol) => assert_eq!(rt; symbol, expected),
-                    _ => assert!(rt; false),
-                }
-            }
-            None => assert!(rt; false),
-        }
+        assert_eq!(rt; only_symbol(text), Some(expected));
     }
 }
 

@@ -32,8 +32,8 @@ fn all_bits_and_none(rt: HostRuntime) {
     assert_eq!(rt; event.readings, [0; 4]);
 }
 
-// A length of a log, how many records it has, and whether a tail is refused.
-const LENGTHS: [(usize, u32, u32); 8] = [
+// A length of a log, how many records it has, and how many tails.
+const LENGTHS: [(usize, usize, usize); 8] = [
     (0, 0, 0),
     (1, 0, 1),
     (23, 0, 1),
@@ -49,21 +49,16 @@ fn logs_have_records_and_tails(rt: HostRuntime) {
     let log = [0x40; 72];
     for (len, records, tails) in LENGTHS {
         assert!(rt; len <= log.len());
-        let mut whole = 0u32;
-        let mut refused = 0u32;
-        for item in Records::new(&log[0..len]) {
+        let part = &log[0..len];
+        for item in Records::new(part) {
             match item {
-                Ok(event) => {
-                    assert_eq!(rt; event.kind, 4);
-                    whole = whole.saturating_add(1);
-                }
-                Err(refusal) => {
-                    assert_eq!(rt; refusal.number(), 24);
-                    refused = refused.saturating_add(1);
-                }
+                Ok(event) => assert_eq!(rt; event.kind, 4),
+                Err(refusal) => assert_eq!(rt; refusal.number(), 24),
             }
         }
+        let whole = Records::new(part).filter(|item| item.is_ok()).count();
         assert_eq!(rt; whole, records);
+        let refused = Records::new(part).filter(|item| item.is_err()).count();
         assert_eq!(rt; refused, tails);
     }
 }

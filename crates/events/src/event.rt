@@ -16,7 +16,7 @@ pub struct Event<K> {
     pub readings: [i32; 4],
 }
 
-// The word of a kind, or the number of what is no kind.
+// The word of a kind, or the number of what is no kind, which an event may hold.
 #[derive(Drop)]
 struct KindText(u8);
 

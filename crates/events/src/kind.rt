@@ -116,7 +116,7 @@ impl fmt::Display for UnknownKind {
 
 impl Error for UnknownKind {}
 
-// The word for a kind; a number over 15 is no kind and has none.
+// The word for a kind by its number, as an event has it. A number over 15 is no kind and has none.
 pub fn kind_word(kind: u8) -> Option<&'static str>
     ensures { option_map (λ x. x.now) result ≡ word_of kind }
 {

@@ -6,3 +6,4 @@ pub mod Parts
 pub mod Conditions
 pub mod Queries
 pub mod Whole
+pub mod Steps

@@ -70,6 +70,13 @@ is_word c (number ds) = false
 is_word c (mark m) = false
 is_word c (stray b) = false
 
+-- the class of a word
+abbrev pub class_in : Tok → Option Class
+class_in (word w) = Some (class_of w)
+class_in (number ds) = None
+class_in (mark m) = None
+class_in (stray b) = None
+
 -- the letter of a variable
 abbrev pub variable_of : Tok → Option ℕ
 variable_of (word w) = cond (rank (class_of w) == 9) (Some (held (class_of w))) None

@@ -1,159 +1,109 @@
-// Single tokens: each of these takes one off the front of what is left of a text of `end` bytes.
-ghost use Rattle.std.specs.Prelude.{◌≡◌, ℕ, ◌<◌, ◌∷◌, IfSome, IfOk};
-ghost use Rattle.grammar.specs.Known.{is_mark, is_word, variable_of, reading_of, kind_of, number_of, comparison_of};
-ghost use Rattle.grammar.specs.Reading.{fixed, expect, known as known_as, past};
-ghost use Rattle.grammar.specs.Shown.{count, shown, shown_by, bytes_and_place, rest_shown, First};
-ghost use Rattle.letters.specs.Tokens.{tokens_of, placed};
+// Single tokens: each of these takes one off the front of those that lie ahead.
+ghost use Rattle.std.specs.Prelude.{IfOk};
+ghost use Rattle.grammar.specs.Known.{variable_of, reading_of, kind_of, number_of, comparison_of};
+ghost use Rattle.grammar.specs.Reading.{fixed, expect};
+ghost use Rattle.grammar.specs.Shown.{Takes, TakesAs, bytes_and_place, First, Next, Onward, Skips, Known};
 
 use crate::fault::GrammarFault;
-use crate::known::{comparison_of, is_mark, is_word, kind_of, number_of, reading_of, variable_of};
+use crate::known::{Wanted, comparison_of, kind_of, number_of, reading_of, variable_of};
 use crate::test::Comparison;
-use letters::{Class, Spanned, Symbol, next_token};
+use letters::{Spanned, Token, Tokens};
 
-// The first token, whatever it is.
-pub fn first<'a>(text: &'a [u8], end: usize) -> Result<(Spanned<'a>, &'a [u8]), GrammarFault>
-    ensures value { First end result (tokens_of end text.now) }
-    ensures fewer { IfOk result (λ p. count end p.1.now < count end text.now) }
+// The next token, which stays ahead.
+pub fn first<'a>(tokens: &Tokens<'a>) -> Result<Spanned<'a>, GrammarFault>
+    ensures { First result tokens.now }
 {
-    match next_token(text, end) {
-        Some((token, rest)) => Ok((token, rest)),
-        None => Err(GrammarFault::WrongToken(end)),
-    }
+    tokens.peek().ok_or(GrammarFault::WrongToken(tokens.end()))
 }
 
-// What a token at this place was found to be, if anything.
-fn known<'a, T>(
-    found: Option<T>,
-    place: usize,
-    rest: &'a [u8],
-) -> Result<((T, usize), &'a [u8]), GrammarFault>
-    ensures value { (end : ℕ) → shown end result ≡ known_as found place (tokens_of end rest.now) }
-    ensures fewer { IfOk result (λ p. p.1.now ≡ rest.now) }
+// The next token, whatever it is.
+pub fn next<'a>(tokens: &mut Tokens<'a>) -> Result<Spanned<'a>, GrammarFault>
+    ensures value { Next tokens.old result tokens.new }
+    ensures onward { IfOk result (λ _. Onward tokens.old tokens.new) }
 {
-    match found {
-        Some(it) => Ok(((it, place), rest)),
-        None => Err(GrammarFault::WrongToken(place)),
-    }
+    let end = tokens.end();
+    tokens.next().ok_or(GrammarFault::WrongToken(end))
 }
 
-// The symbol: its place.
-pub fn expect_mark<'a>(
-    text: &'a [u8],
-    end: usize,
-    symbol: Symbol,
-) -> Result<(usize, &'a [u8]), GrammarFault>
-    ensures value { shown end result ≡ fixed (is_mark symbol) end (tokens_of end text.now) }
-    ensures fewer { IfOk result (λ p. count end p.1.now < count end text.now) }
+// What is wanted: its place.
+pub fn expect<W: Wanted>(tokens: &mut Tokens, wanted: W) -> Result<usize, GrammarFault>
+    ensures { Takes (fixed (W.test wanted)) tokens.old result tokens.new }
 {
-    let (token, rest) = first(text, end)?;
-    if is_mark(token.token, symbol) {
-        Ok((token.place, rest))
+    let token = next(tokens)?;
+    if wanted.matches(token.token) {
+        Ok(token.place)
     } else {
         Err(GrammarFault::WrongToken(token.place))
     }
 }
 
-// A word of the class: its place.
-pub fn expect_word<'a>(
-    text: &'a [u8],
-    end: usize,
-    class: Class,
-) -> Result<(usize, &'a [u8]), GrammarFault>
-    ensures value { shown end result ≡ fixed (is_word class) end (tokens_of end text.now) }
-    ensures fewer { IfOk result (λ p. count end p.1.now < count end text.now) }
+// Takes what is wanted, if it comes next.
+pub fn skip<W: Wanted>(tokens: &mut Tokens, wanted: W) -> bool
+    ensures { Skips (W.test wanted) tokens.old result tokens.new }
 {
-    let (token, rest) = first(text, end)?;
-    if is_word(token.token, class) {
-        Ok((token.place, rest))
-    } else {
-        Err(GrammarFault::WrongToken(token.place))
+    match tokens.peek() {
+        Some(token) if wanted.matches(token.token) => {
+            tokens.next();
+            true
+        }
+        _ => false,
     }
 }
+
+// A token that `know` knows: what it is, and its place. Here and at `next` the clause `onward` stands by itself, since `Takes` wants a reader of the
+// specs.
+fn expect_known<'a, T: Drop, F: Fn(Token<'a>) -> Option<T> + Drop>(
+    tokens: &mut Tokens<'a>,
+    know: F,
+) -> Result<(T, usize), GrammarFault>
+    requires { F.IsAlwaysCallable know }
+    ensures value { Known (λ x it. F.post know x it) tokens.old tokens.new result }
+    ensures onward { IfOk result (λ _. Onward tokens.old tokens.new) }
+{
+    let token = next(tokens)?;
+    match know(token.token) {
+        Some(it) => Ok((it, token.place)),
+        None => Err(GrammarFault::WrongToken(token.place)),
+    }
+}
+
+// The next five only name what is known, so that callers read well.
 
 // A variable: its letter and its place.
-pub fn expect_variable<'a>(
-    text: &'a [u8],
-    end: usize,
-) -> Result<((u8, usize), &'a [u8]), GrammarFault>
-    ensures value { shown end result ≡ expect variable_of end (tokens_of end text.now) }
-    ensures fewer { IfOk result (λ p. count end p.1.now < count end text.now) }
+#[tactic(auto, using(crate::proofs::Steps::expect_at))]
+pub fn expect_variable(tokens: &mut Tokens) -> Result<(u8, usize), GrammarFault>
+    ensures { Takes (expect variable_of) tokens.old result tokens.new }
 {
-    let (token, rest) = first(text, end)?;
-    known(variable_of(token.token), token.place, rest)
-}
-
-// The symbol, or nothing: what follows it.
-pub fn skip_mark<'a>(text: &'a [u8], end: usize, symbol: Symbol) -> Option<&'a [u8]>
-    ensures value { rest_shown end result ≡ past (is_mark symbol) (tokens_of end text.now) }
-    ensures fewer { IfSome result (λ rest. count end rest.now < count end text.now) }
-{
-    let (token, rest) = next_token(text, end)?;
-    if is_mark(token.token, symbol) {
-        Some(rest)
-    } else {
-        None
-    }
-}
-
-// A word of the class, or nothing: what follows it.
-pub fn skip_word<'a>(text: &'a [u8], end: usize, class: Class) -> Option<&'a [u8]>
-    ensures value { rest_shown end result ≡ past (is_word class) (tokens_of end text.now) }
-    ensures fewer { IfSome result (λ rest. count end rest.now < count end text.now) }
-{
-    let (token, rest) = next_token(text, end)?;
-    if is_word(token.token, class) {
-        Some(rest)
-    } else {
-        None
-    }
+    expect_known(tokens, variable_of)
 }
 
 // A reading: its number and its place.
-pub(crate) fn expect_reading<'a>(
-    text: &'a [u8],
-    end: usize,
-) -> Result<((u8, usize), &'a [u8]), GrammarFault>
-    ensures value { shown end result ≡ expect reading_of end (tokens_of end text.now) }
-    ensures fewer { IfOk result (λ p. count end p.1.now < count end text.now) }
+#[tactic(auto, using(crate::proofs::Steps::expect_at))]
+pub(crate) fn expect_reading(tokens: &mut Tokens) -> Result<(u8, usize), GrammarFault>
+    ensures { Takes (expect reading_of) tokens.old result tokens.new }
 {
-    let (token, rest) = first(text, end)?;
-    known(reading_of(token.token), token.place, rest)
+    expect_known(tokens, reading_of)
 }
 
-pub(crate) fn expect_comparison<'a>(
-    text: &'a [u8],
-    end: usize,
-) -> Result<((Comparison, usize), &'a [u8]), GrammarFault>
-    ensures value { shown end result ≡ expect comparison_of end (tokens_of end text.now) }
-    ensures fewer { IfOk result (λ p. count end p.1.now < count end text.now) }
+#[tactic(auto, using(crate::proofs::Steps::expect_at))]
+pub(crate) fn expect_comparison(tokens: &mut Tokens) -> Result<(Comparison, usize), GrammarFault>
+    ensures { Takes (expect comparison_of) tokens.old result tokens.new }
 {
-    let (token, rest) = first(text, end)?;
-    known(comparison_of(token.token), token.place, rest)
+    expect_known(tokens, comparison_of)
 }
 
 // A number: its value and its place.
-pub fn expect_number<'a>(
-    text: &'a [u8],
-    end: usize,
-) -> Result<((u32, usize), &'a [u8]), GrammarFault>
-    ensures value { shown end result ≡ expect number_of end (tokens_of end text.now) }
-    ensures fewer { IfOk result (λ p. count end p.1.now < count end text.now) }
+#[tactic(auto, using(crate::proofs::Steps::expect_at))]
+pub fn expect_number(tokens: &mut Tokens) -> Result<(u32, usize), GrammarFault>
+    ensures { Takes (expect number_of) tokens.old result tokens.new }
 {
-    let (token, rest) = first(text, end)?;
-    known(number_of(token.token), token.place, rest)
+    expect_known(tokens, number_of)
 }
 
 // A kind word: its bytes and its place.
-pub fn expect_kind<'a>(
-    text: &'a [u8],
-    end: usize,
-) -> Result<((&'a [u8], usize), &'a [u8]), GrammarFault>
-    ensures value { shown_by bytes_and_place end result ≡ expect kind_of end (tokens_of end text.now) }
-    ensures fewer { IfOk result (λ p. count end p.1.now < count end text.now) }
+#[tactic(auto, using(crate::proofs::Steps::expect_kinds))]
+pub fn expect_kind<'a>(tokens: &mut Tokens<'a>) -> Result<(&'a [u8], usize), GrammarFault>
+    ensures { TakesAs bytes_and_place (expect kind_of) tokens.old result tokens.new }
 {
-    let (token, rest) = first(text, end)?;
-    match kind_of(token.token) {
-        Some(word) => Ok(((word, token.place), rest)),
-        None => Err(GrammarFault::WrongToken(token.place)),
-    }
+    expect_known(tokens, kind_of)
 }

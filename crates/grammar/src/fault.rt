@@ -24,8 +24,7 @@ impl GrammarFault {
         ensures { result ≡ place_of self }
     {
         match self {
-            GrammarFault::WrongToken(place) => place,
-            GrammarFault::TooDeep(place) => place,
+            GrammarFault::WrongToken(place) | GrammarFault::TooDeep(place) => place,
         }
     }
 }

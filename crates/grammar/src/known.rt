@@ -1,34 +1,63 @@
 // What a token is to the grammar.
-ghost use Rattle.std.specs.Prelude.{◌≡◌};
-ghost use Rattle.grammar.specs.Known.{rank as rank_of, is_mark, is_word, variable_of, reading_of, kind_of, number_of, comparison_of};
-ghost use Rattle.letters.specs.Tokens.{seen};
+ghost use Rattle.std.specs.Prelude.{◌≡◌, Bool};
+ghost use Rattle.grammar.specs.Known.{rank as rank_of, is_mark, is_word, class_in, variable_of, reading_of, kind_of, number_of, comparison_of};
+ghost use Rattle.letters.specs.Tokens.{Tok, seen};
 ghost use Rattle.std.specs.Option.{option_map};
 
 use crate::test::Comparison;
 use letters::{Class, Symbol, Token, class_of, number_value};
 
-pub fn is_mark(token: Token, symbol: Symbol) -> bool
-    ensures { result ≡ is_mark symbol (seen token.entry) }
+// What a reader may want of a token: to be a symbol, or a word of a class.
+pub trait Wanted: Copy {
+    ghost test: { Self → Tok → Bool };
+
+    fn matches(self, token: Token) -> bool
+        ensures { result ≡ test self (seen token.entry) };
+}
+
+impl Wanted for Symbol {
+    ghost test = { is_mark };
+
+    fn matches(self, token: Token) -> bool {
+        match token {
+            Token::Mark(mark) => mark == self,
+            _ => false,
+        }
+    }
+}
+
+impl Wanted for Class {
+    ghost test = { is_word };
+
+    fn matches(self, token: Token) -> bool {
+        match token {
+            Token::Word(word) => rank(class_of(word)) == rank(self),
+            _ => false,
+        }
+    }
+}
+
+// The class of a word.
+fn class_in(token: Token) -> Option<Class>
+    ensures { result ≡ class_in (seen token.entry) }
 {
     match token {
-        Token::Mark(mark) => mark == symbol,
-        _ => false,
+        Token::Word(word) => Some(class_of(word)),
+        _ => None,
     }
 }
 
 pub(crate) fn variable_of(token: Token) -> Option<u8>
     ensures { result ≡ variable_of (seen token.entry) }
 {
-    match token {
-        Token::Word(word) => match class_of(word) {
-            Class::Variable(letter) => Some(letter),
-            _ => None,
-        },
+    match class_in(token)? {
+        Class::Variable(letter) => Some(letter),
         _ => None,
     }
 }
 
-// Words of one class have one rank, whatever they hold.
+// Words of one class have one rank, whatever they hold. No plainer way: `==` would also compare what a reading or a variable holds, and the
+// library has no `mem::discriminant`.
 fn rank(class: Class) -> u8
     ensures { result ≡ rank_of class }
 {
@@ -47,23 +76,11 @@ fn rank(class: Class) -> u8
     }
 }
 
-pub fn is_word(token: Token, class: Class) -> bool
-    ensures { result ≡ is_word class (seen token.entry) }
-{
-    match token {
-        Token::Word(word) => rank(class_of(word)) == rank(class),
-        _ => false,
-    }
-}
-
 pub(crate) fn reading_of(token: Token) -> Option<u8>
     ensures { result ≡ reading_of (seen token.entry) }
 {
-    match token {
-        Token::Word(word) => match class_of(word) {
-            Class::Reading(number) => Some(number),
-            _ => None,
-        },
+    match class_in(token)? {
+        Class::Reading(number) => Some(number),
         _ => None,
     }
 }

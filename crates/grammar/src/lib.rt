@@ -8,12 +8,9 @@ mod law;
 mod test;
 mod tested;
 
-pub use expected::{
-    expect_kind, expect_mark, expect_number, expect_variable, expect_word, first, skip_mark,
-    skip_word,
-};
+pub use expected::{expect, expect_kind, expect_number, expect_variable, first, next, skip};
 pub use fault::GrammarFault;
-pub use known::{is_mark, is_word};
+pub use known::Wanted;
 pub use law::grammar_holds;
 pub use test::{Comparison, Item, Name, Side, Test};
 pub use tested::read_test;

@@ -1,84 +1,89 @@
 // The reader of tests.
-ghost use Rattle.std.specs.Prelude.{◌≡◌, ◌<◌, ◌≤◌, IfOk};
-ghost use Rattle.grammar.specs.Reading.{item_at, side_from, side_at, test_at};
-ghost use Rattle.grammar.specs.Shown.{count, shown, shown_by, as_written};
-ghost use Rattle.letters.specs.Tokens.{tokens_of};
+ghost use Rattle.std.specs.Prelude.{◌≡◌, IfOk};
+ghost use Rattle.grammar.specs.declared.test.Side.TheVariants.{Sum, Difference};
+ghost use Rattle.grammar.specs.Reading.{giving, item_at, side_from, side_at, test_at};
+ghost use Rattle.grammar.specs.Shown.{shown, Takes, TakesAs, as_written, NotBack};
+ghost use Rattle.letters.specs.Tokens.{ahead, end_of};
 
-use crate::expected::{expect_comparison, expect_mark, expect_number, expect_reading, first};
+use crate::expected::{
+    expect, expect_comparison, expect_number, expect_reading, first, next, skip,
+};
 use crate::fault::GrammarFault;
-use crate::known::{is_mark, variable_of};
+use crate::known::{Wanted, number_of, variable_of};
 use crate::test::{Item, Name, Side, Test};
-use letters::{Symbol, next_token};
+use letters::{Symbol, Tokens};
 
-fn read_item<'a>(text: &'a [u8], end: usize) -> Result<(Item<Name>, &'a [u8]), GrammarFault>
-    ensures value { shown end result ≡ item_at end (tokens_of end text.now) }
-    ensures fewer { IfOk result (λ p. count end p.1.now < count end text.now) }
+fn read_item(tokens: &mut Tokens) -> Result<Item<Name>, GrammarFault>
+    ensures { Takes item_at tokens.old result tokens.new }
 {
-    let (token, rest) = first(text, end)?;
-    if is_mark(token.token, Symbol::Minus) {
-        let ((value, _), rest) = expect_number(rest, end)?;
-        return Ok((Item::Number(-i64::from(value)), rest));
+    let token = next(tokens)?;
+    if Symbol::Minus.matches(token.token) {
+        let (value, _) = expect_number(tokens)?;
+        return Ok(Item::Number(-i64::from(value)));
     }
     if let Some(letter) = variable_of(token.token) {
-        let (_, rest) = expect_mark(rest, end, Symbol::Dot)?;
-        let ((reading, _), rest) = expect_reading(rest, end)?;
+        expect(tokens, Symbol::Dot)?;
+        let (reading, _) = expect_reading(tokens)?;
         let name = Name {
             letter,
             place: token.place,
         };
-        return Ok((Item::Reading(name, reading), rest));
+        return Ok(Item::Reading(name, reading));
     }
-    let ((value, _), rest) = expect_number(text, end)?;
-    Ok((Item::Number(i64::from(value)), rest))
+    match number_of(token.token) {
+        Some(value) => Ok(Item::Number(i64::from(value))),
+        None => Err(GrammarFault::WrongToken(token.place)),
+    }
+}
+
+fn read_sum(left: Item<Name>, tokens: &mut Tokens) -> Result<Side<Name>, GrammarFault>
+    ensures { Takes (λ end ts. giving (Sum left) (item_at end ts)) tokens.old result tokens.new }
+{
+    let right = read_item(tokens)?;
+    Ok(Side::Sum(left, right))
+}
+
+// Beside `read_sum`, since one function over both would take a closure and a longer contract.
+fn read_difference(left: Item<Name>, tokens: &mut Tokens) -> Result<Side<Name>, GrammarFault>
+    ensures { Takes (λ end ts. giving (Difference left) (item_at end ts)) tokens.old result tokens.new }
+{
+    let right = read_item(tokens)?;
+    Ok(Side::Difference(left, right))
 }
 
 // What may follow the first item of a side: an item to add or to take away.
-fn read_side_from<'a>(
-    left: Item<Name>,
-    text: &'a [u8],
-    end: usize,
-) -> Result<(Side<Name>, &'a [u8]), GrammarFault>
-    ensures value { shown end result ≡ side_from end left (tokens_of end text.now) }
-    ensures fewer { IfOk result (λ p. count end p.1.now ≤ count end text.now) }
+fn read_side_from(left: Item<Name>, tokens: &mut Tokens) -> Result<Side<Name>, GrammarFault>
+    ensures value { shown result tokens.new ≡ side_from (end_of tokens.old) left (ahead tokens.old) }
+    ensures onward { IfOk result (λ _. NotBack tokens.old tokens.new) }
 {
-    let Some((token, rest)) = next_token(text, end) else {
-        return Ok((Side::Alone(left), text));
-    };
-    if is_mark(token.token, Symbol::Plus) {
-        let (right, rest) = read_item(rest, end)?;
-        return Ok((Side::Sum(left, right), rest));
+    if skip(tokens, Symbol::Plus) {
+        return read_sum(left, tokens);
     }
-    if is_mark(token.token, Symbol::Minus) {
-        let (right, rest) = read_item(rest, end)?;
-        return Ok((Side::Difference(left, right), rest));
+    if skip(tokens, Symbol::Minus) {
+        return read_difference(left, tokens);
     }
-    Ok((Side::Alone(left), text))
+    Ok(Side::Alone(left))
 }
 
-fn read_side<'a>(text: &'a [u8], end: usize) -> Result<(Side<Name>, &'a [u8]), GrammarFault>
-    ensures value { shown end result ≡ side_at end (tokens_of end text.now) }
-    ensures fewer { IfOk result (λ p. count end p.1.now < count end text.now) }
+fn read_side(tokens: &mut Tokens) -> Result<Side<Name>, GrammarFault>
+    ensures { Takes side_at tokens.old result tokens.new }
 {
-    let (left, rest) = read_item(text, end)?;
-    read_side_from(left, rest, end)
+    let left = read_item(tokens)?;
+    read_side_from(left, tokens)
 }
 
 // A test, and the place of its first token.
-pub fn read_test<'a>(
-    text: &'a [u8],
-    end: usize,
-) -> Result<((Test<Name>, usize), &'a [u8]), GrammarFault>
-    ensures value { shown_by as_written end result ≡ test_at end (tokens_of end text.now) }
-    ensures fewer { IfOk result (λ p. count end p.1.now < count end text.now) }
+pub fn read_test(tokens: &mut Tokens) -> Result<(Test<Name>, usize), GrammarFault>
+    ensures { TakesAs as_written test_at tokens.old result tokens.new }
 {
-    let (token, _) = first(text, end)?;
-    let (left, rest) = read_side(text, end)?;
-    let ((comparison, _), rest) = expect_comparison(rest, end)?;
-    let (right, rest) = read_side(rest, end)?;
+    let place = first(tokens)?.place;
+    let left = read_side(tokens)?;
+    let (comparison, _) = expect_comparison(tokens)?;
+    let right = read_side(tokens)?;
     let test = Test {
         left,
         comparison,
         right,
     };
-    Ok(((test, token.place), rest))
+    Ok((test, place))
 }

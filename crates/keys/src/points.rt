@@ -4,7 +4,8 @@ ghost use Rattle.keys.specs.Rooms.{zeros_after, length_held, room_back};
 
 use std::marker::Model;
 
-// At most N code points: the first `len` of `room`. The rest of the room is zeros.
+// At most N code points: the first `len` of `room`. The rest of the room is zeros. A room and a length, since libraries use no heap and a name has
+// to be `Copy`.
 #[derive(Clone, Copy)]
 pub(crate) struct Points<const N: usize> {
     room: [u32; N],

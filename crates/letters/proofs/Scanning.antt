@@ -1,9 +1,12 @@
 -- A text's tokens, one after another. Assumes nothing.
 use Rattle.std.proofs.Common.{◌≡◌, ℕ, zero, suc, ◌+◌, ◌-◌, ◌<◌, ◌≤◌, Bool, true, false, List, [], ◌∷◌, length, get_or, take, drop, Some, None, sym, refl, ap, ◌∙◌, subst, ⊎_elim, one-add, arith, length-drop}
-use Rattle.letters.specs.Bytes.{is_digit, is_letter, is_word, is_blank}
+use Rattle.letters.specs.Bytes.{is_digit, is_letter, is_word, is_blank, Tests, SplitWhile}
 use Rattle.letters.specs.Symbols.{Found, symbol_at, one_byte, two_bytes, takes_equal, equal_next}
-use Rattle.letters.specs.Tokens.{Tok, Cut, marked, token_at, Placed, after_cut, past_blanks, tokens_by, tokens_of}
-use Rattle.letters.specs.Tokens.Tok.{stray}
+use Rattle.letters.specs.Tokens.{Tok, Cut, with_place, token_seen, seen, left, end_of, ahead, Cuts, marked, token_at, Placed, after_cut, past_blanks, tokens_by, tokens_of}
+use Rattle.letters.specs.Tokens.Tok.{word, number, stray}
+use Rattle.letters.specs.declared.token.Spanned.{Spanned}
+use Rattle.std.specs.Borrow.{Bor}
+use Rattle.letters.specs.declared.token.Tokens.{Tokens}
 use Rattle.std.proofs.lemmas.List.{take_rest}
 use Rattle.std.proofs.lemmas.Bool.{cond-true, cond-false, cond_both, false≢true, and_parts, or_right, cases_Bool}
 use Rattle.std.specs.List.{prefix_len}
@@ -14,6 +17,22 @@ pub stray_at : (xs : List ℕ) → 1 ≤ length xs → is_digit (get_or xs 0 0) 
 stray_at [] some no_digit no_word no_symbol = absurd (omega arith)
 stray_at (b ∷ bs) some no_digit no_word no_symbol =
     sym (cond-false _ _ _ no_digit ∙ cond-false _ _ _ no_word ∙ ap (marked b bs) no_symbol ∙ ap (λ (l : List ℕ). Some (stray b, l)) (sym (take_rest (b ∷ bs) 1)))
+
+-- a run of digits, and a run of letters and digits
+pub number_at : {gives : ℕ → Bool → Type 0} (xs front back : List ℕ) → SplitWhile gives xs front back → 1 ≤ length xs → is_digit (get_or xs 0 0) ≡ true →
+    Tests gives is_digit → Some (number front, back) ≡ token_at xs
+number_at [] front back split some digit tests = absurd (omega arith)
+number_at (b ∷ bs) front back split some digit tests =
+    (λ i. Some (number (split.front is_digit tests i), split.back is_digit tests i)) ∙ sym (cond-true _ _ _ digit)
+
+pub word_at : {gives : ℕ → Bool → Type 0} (xs front back : List ℕ) → SplitWhile gives xs front back → 1 ≤ length xs → is_digit (get_or xs 0 0) ≡ false →
+    is_letter (get_or xs 0 0) ≡ true → Tests gives is_word → Some (word front, back) ≡ token_at xs
+word_at [] front back split some no_digit letter tests = absurd (omega arith)
+word_at (b ∷ bs) front back split some no_digit letter tests =
+    (λ i. Some (word (split.front is_word tests i), split.back is_word tests i)) ∙ sym (cond-false _ _ _ no_digit ∙ cond-true _ _ _ letter)
+
+pub past_is : {gives : ℕ → Bool → Type 0} (xs front back : List ℕ) → SplitWhile gives xs front back → Tests gives is_blank → back ≡ past_blanks xs
+past_is xs front back split tests = split.back is_blank tests
 
 -- what follows a token is shorter than n
 abbrev pub Shorter : ℕ → Cut → Type 0
@@ -107,3 +126,33 @@ tokens_here end bs t after bare' is =
 
 pub none_here : (end : ℕ) (bs : List ℕ) → prefix_len is_blank bs ≡ 0 → token_at bs ≡ None → [] ≡ tokens_of end bs
 none_here end bs bare' is = sym (tokens_none end bs (ap token_at (stays bs bare') ∙ is))
+
+-- what a reader's first token is, and that there is none
+bare_text : (bs text : List ℕ) → text ≡ past_blanks bs → prefix_len is_blank text ≡ 0
+bare_text bs text blanks = ap (prefix_len is_blank) blanks ∙ bare bs
+
+same_text : (end : ℕ) (bs text : List ℕ) → text ≡ past_blanks bs → tokens_of end text ≡ tokens_of end bs
+same_text end bs text blanks = ap (tokens_of end) blanks ∙ same_tokens end bs
+
+pub cut_is : (s : Tokens) (text : List ℕ) (given : Spanned) (after : Bor (List ℕ)) (behind : Tokens) → given.place ≡ end_of s - length text → text ≡ past_blanks (left s) →
+    token_seen (Some (given.token, after)) ≡ token_at text → left behind ≡ after.now → end_of behind ≡ end_of s → Cuts s (Some (given, behind))
+unfolding ahead
+cut_is s text given after behind at blanks is rest same =
+    let t = seen given.token in
+    record {
+      value = (λ i. Some ((t, at i), rest i)) ∙ ap (with_place (end_of s) (length text)) is ∙
+          ap (λ (bs : List ℕ). with_place (end_of s) (length bs) (token_at bs)) blanks;
+      tokens = (λ i. (t, at i) ∷ tokens_of (same i) (rest i)) ∙ tokens_here (end_of s) text t after.now (bare_text (left s) text blanks) (sym is) ∙
+          same_text (end_of s) (left s) text blanks;
+      end = same;
+      shorter = omega (arith, shorter text t after.now (sym is), ap length rest, ap length blanks, blanks_shorter (left s));
+    }
+
+pub no_cut : (s : Tokens) (text : List ℕ) → token_seen None ≡ token_at text → text ≡ past_blanks (left s) → Cuts s None
+unfolding ahead
+no_cut s text is blanks = record {
+  value = ap (with_place (end_of s) (length text)) is ∙ ap (λ (bs : List ℕ). with_place (end_of s) (length bs) (token_at bs)) blanks;
+  tokens = none_here (end_of s) text (bare_text (left s) text blanks) (sym is) ∙ same_text (end_of s) (left s) text blanks;
+  end = tt;
+  shorter = tt;
+}

@@ -1,5 +1,5 @@
 -- A text as its tokens. Assumes nothing.
-use Rattle.std.specs.Prelude.{ℕ, zero, suc, ◌-◌, cond, List, [], ◌∷◌, length, take, drop, Some, None, Option}
+use Rattle.std.specs.Prelude.{◌≡◌, ℕ, zero, suc, ◌-◌, ◌<◌, cond, List, [], ◌∷◌, length, take, drop, Some, None, Option, IfSome}
 use Rattle.std.specs.Borrow.{Bor}
 use Rattle.letters.specs.Bytes.{is_digit, is_letter, is_word, is_blank}
 use Rattle.letters.specs.Symbols.{Found, symbol_at}
@@ -7,6 +7,7 @@ use Rattle.letters.specs.declared.symbol.Symbol.{Symbol}
 use Rattle.letters.specs.declared.token.Spanned.{Spanned}
 use Rattle.letters.specs.declared.token.Token.{Token}
 use Rattle.letters.specs.declared.token.Token.TheVariants.{Word, Number, Mark, Stray}
+use Rattle.letters.specs.declared.token.Tokens.{Tokens}
 use Rattle.std.specs.List.{prefix_len}
 
 -- a token by its bytes
@@ -77,11 +78,38 @@ token_seen (Some p) = Some (seen p.0, p.1.now)
 abbrev pub placed : Spanned → Placed
 placed s = (seen s.token, s.place)
 
-abbrev pub next_seen : Option (Spanned × Bor (List ℕ)) → Option (Placed × List ℕ)
+-- the first of them
+abbrev pub first_of : List Placed → Option Placed
+first_of [] = None
+first_of (t ∷ ts) = Some t
+
+-- what is left of the text of a reader of tokens, how long the whole text is, and the tokens that lie ahead
+unfoldable pub left : Tokens → List ℕ
+left s = s.rest.now
+
+unfoldable pub end_of : Tokens → ℕ
+end_of s = s.end
+
+unfoldable pub ahead : Tokens → List Placed
+ahead s = tokens_of (end_of s) (left s)
+
+abbrev pub next_seen : Option (Spanned × Tokens) → Option (Placed × List ℕ)
 next_seen None = None
-next_seen (Some p) = Some (placed p.0, p.1.now)
+next_seen (Some p) = Some (placed p.0, left p.1)
 
 -- all tokens, by the first of them and by what follows it
-abbrev pub first_and_others : ℕ → Option (Spanned × Bor (List ℕ)) → List Placed
-first_and_others end None = []
-first_and_others end (Some p) = placed p.0 ∷ tokens_of end p.1.now
+abbrev pub first_and_others : Option (Spanned × Tokens) → List Placed
+first_and_others None = []
+first_and_others (Some p) = placed p.0 ∷ ahead p.1
+
+-- the first token ahead of a reader, and the reader behind it
+pub record Cuts (s : Tokens) (found : Option (Spanned × Tokens)) : Type 0 where
+  pub value : next_seen found ≡ next_cut (end_of s) (left s)
+  pub tokens : first_and_others found ≡ ahead s
+  pub end : IfSome found (λ p. end_of p.1 ≡ end_of s)
+  pub shorter : IfSome found (λ p. length (left p.1) < length (left s))
+
+-- one call of the reader: what it gives and leaves
+abbrev pub reads : Tokens → Option Spanned → Tokens → Type 0
+reads s None t = Cuts s None × (t ≡ s)
+reads s (Some x) t = Cuts s (Some (x, t))

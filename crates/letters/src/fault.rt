@@ -4,7 +4,7 @@ ghost use Rattle.letters.specs.Faults.{number_of, place_of, judged, letters_answ
 ghost use Rattle.letters.specs.Tokens.{placed};
 
 use crate::number::number_value;
-use crate::token::{Spanned, Token, next_token};
+use crate::token::{Spanned, Token, Tokens};
 
 // The most bytes that a query text may have.
 pub const LONGEST: usize = 4096;
@@ -32,8 +32,7 @@ impl LetterFault {
         ensures { result ≡ place_of self }
     {
         match self {
-            LetterFault::StrayByte(place) => place,
-            LetterFault::LongNumber(place) => place,
+            LetterFault::StrayByte(place) | LetterFault::LongNumber(place) => place,
             LetterFault::LongText => LONGEST,
         }
     }
@@ -61,10 +60,8 @@ pub fn check_letters(text: &[u8]) -> Result<(), LetterFault>
     if text.len() > LONGEST {
         return Err(LetterFault::LongText);
     }
-    let mut rest = text;
-    while let Some((token, after)) = next_token(rest, text.len()) {
+    for token in Tokens::new(text) {
         judge(token)?;
-        rest = after;
     }
     Ok(())
 }

@@ -10,5 +10,5 @@ mod word;
 pub use fault::{LONGEST, LetterFault, check_letters};
 pub use number::{LARGEST, number_value};
 pub use symbol::Symbol;
-pub use token::{Spanned, Token, next_token};
+pub use token::{Spanned, Token, Tokens};
 pub use word::{Class, class_of};

@@ -1,21 +1,16 @@
 -- What the fields of a query hold. Assumes nothing.
-use Rattle.std.proofs.Common.{◌≡◌, ℕ, ◌+◌, ◌-◌, Bool, true, false, cond, List, [], ◌∷◌, ◌++◌, length, take, set, Ok, codes, count_by, sym, refl, ap, ◌∙◌, arith}
+use Rattle.std.proofs.Common.{◌≡◌, ℕ, ◌+◌, true, false, cond, List, [], ◌∷◌, ◌++◌, length, set, Ok, codes, count_by, sym, refl, ap, ◌∙◌, arith}
 use Rattle.std.proofs.lemmas.List.Sums.{sum_by-append}
 use Rattle.query.proofs.Answering.{language_law}
-use Rattle.query.proofs.Making.{front}
 use Rattle.query.specs.Answer.{answer_of, text_tokens}
-use Rattle.query.specs.Contents.{tree_tests, tests_in}
+use Rattle.query.specs.Contents.{is_test, tree_tests, tests_in}
 use Rattle.query.specs.Held.{IsRead}
 use Rattle.query.specs.Meant.{OneValue}
 use Rattle.sense.specs.Drafted.{no_kinds, blank}
 use Rattle.sense.specs.Meaning.{Reading, Tree, laid, postfix, steps_of, ends_from}
 use Rattle.sense.specs.Meaning.Tree.{leaf, and, or}
 use Rattle.sense.specs.declared.clauses.Step.{Step}
-use Rattle.sense.specs.declared.clauses.Step.TheVariants.{Test, And, Or}
-
--- the front of a room, as a slice from 0 has it
-pub sliced : {X : Type 0} (n : ℕ) (x : X) (xs : List X) (len : ℕ) (piece : List X) → xs ≡ laid n x piece → len ≡ length piece → take (len - 0) xs ≡ piece
-sliced n x xs len piece is counted = let same : len - 0 ≡ len = omega arith in ap (λ (m : ℕ). take m xs) same ∙ front n x xs len piece is counted
+use Rattle.sense.specs.declared.clauses.Step.TheVariants.{And, Or}
 
 pub one_value : OneValue
 one_value p q e = record {
@@ -50,11 +45,6 @@ unfolding answer_of
 new_answer = refl
 
 -- ---- counting
-
-abbrev pub is_test : Step → Bool
-is_test (Test t) = true
-is_test And = false
-is_test Or = false
 
 tests_append : (xs ys : List Step) → count_by is_test (xs ++ ys) ≡ count_by is_test xs + count_by is_test ys
 tests_append = sum_by-append (λ x. cond (is_test x) 1 0)

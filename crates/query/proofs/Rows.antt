@@ -1,17 +1,22 @@
 -- What one turn of a loop over a row keeps. Assumes nothing.
-use Rattle.std.proofs.Common.{◌≡◌, ℕ, zero, suc, ◌-◌, ◌<◌, ◌≤◌, Bool, true, false, cond, List, [], ◌∷◌, length, Some, None, Ok, Err, Option, sym, refl, ap, ◌∙◌, arith}
+use Rattle.std.proofs.Common.{◌≡◌, ℕ, zero, suc, ◌-◌, ◌<◌, ◌≤◌, Bool, true, false, cond, List, [], ◌∷◌, length, Some, None, Ok, Err, Option, Result, sym, refl, ap, ◌∙◌, arith}
 use Rattle.grammar.specs.Reading.{Read, then, by_option, past, more}
 use Rattle.grammar.specs.declared.fault.GrammarFault.{GrammarFault}
-use Rattle.letters.specs.Tokens.{Tok, Placed}
-use Rattle.query.specs.Descent.{Run, row}
+use Rattle.grammar.specs.Shown.{count, Onward, Skips}
+use Rattle.letters.specs.Tokens.{Tok, Placed, ahead, end_of}
+use Rattle.letters.specs.declared.token.Tokens.{Tokens}
+use Rattle.query.specs.Descent.{left, Run, Calls, Runs, Repeats, row}
+use Rattle.query.specs.declared.descent.Reader.{Reader}
 use Rattle.sense.specs.declared.draft.Draft.{Draft}
 
--- the loop began with the draft d₀ and the tokens ts₀, and going on from d and ts gives the same
-pub record Sofar (separator : Tok → Bool) (next : Run) (d₀ : Draft) (ts₀ : List Placed) (d : Draft) (ts : List Placed) : Type 0 where
+-- the loop began with the reader s₀, and going on from the reader s gives the same
+pub record Sofar (separator : Tok → Bool) (next : ℕ → Run) (s₀ s : Reader) : Type 0 where
   pub steps : ℕ
-  pub enough : length ts ≤ steps
-  pub within : length ts ≤ length ts₀
-  pub goes : more separator next (length ts₀) d₀ ts₀ ≡ more separator next steps d ts
+  pub enough : count s.tokens ≤ steps
+  pub within : count s.tokens ≤ count s₀.tokens
+  pub end : end_of s.tokens ≡ end_of s₀.tokens
+  pub goes : more separator (next (end_of s₀.tokens)) (count s₀.tokens) s₀.draft (ahead s₀.tokens) ≡
+      more separator (next (end_of s₀.tokens)) steps s.draft (ahead s.tokens)
 
 -- what is past a token is shorter
 pub past_shorter : (separator : Tok → Bool) (ts rest : List Placed) → Some rest ≡ past separator ts → length rest < length ts
@@ -22,48 +27,67 @@ past_shorter separator (t ∷ ts) rest e = by_test (separator t.0) e
     by_test true is = let same : rest ≡ ts = cc in omega (arith, ap length same)
     by_test false is = let z : ◌≡◌ {A = ℕ} 0 1 = cc in absurd (omega arith)
 
-module _ (separator : Tok → Bool) (next : Run) where
-  pub begun : (d : Draft) (ts : List Placed) → Sofar separator next d ts d ts
-  begun d ts = record { steps = length ts; enough = omega arith; within = omega arith; goes = refl }
+last : (separator : Tok → Bool) (next : Run) (n : ℕ) (d : Draft) (ts : List Placed) → None ≡ past separator ts → more separator next n d ts ≡ Ok (d, ts)
+last separator next zero d ts is = refl
+last separator next (suc n) d ts is =
+    ap (λ (o : Option (List Placed)). by_option o (λ rest. then (next d rest) (λ d' after. more separator next n d' after)) (Ok (d, ts))) (sym is)
 
-  last : (n : ℕ) (d : Draft) (ts : List Placed) → None ≡ past separator ts → more separator next n d ts ≡ Ok (d, ts)
-  last zero d ts is = refl
-  last (suc n) d ts is =
-      ap (λ (o : Option (List Placed)). by_option o (λ rest. then (next d rest) (λ d' after. more separator next n d' after)) (Ok (d, ts))) (sym is)
+turn : (separator : Tok → Bool) (next : Run) (n : ℕ) (d : Draft) (ts rest : List Placed) → 0 < n → Some rest ≡ past separator ts →
+    more separator next n d ts ≡ then (next d rest) (λ d' after. more separator next (n - 1) d' after)
+turn separator next zero d ts rest h is = absurd (omega arith)
+turn separator next (suc n) d ts rest h is =
+    let back : suc n - 1 ≡ n = omega arith in
+    rw back (ap (λ (o : Option (List Placed)). by_option o (λ rest. then (next d rest) (λ d' after. more separator next n d' after)) (Ok (d, ts))) (sym is))
 
-  turn : (n : ℕ) (d : Draft) (ts rest : List Placed) → 0 < n → Some rest ≡ past separator ts →
-      more separator next n d ts ≡ then (next d rest) (λ d' after. more separator next (n - 1) d' after)
-  turn zero d ts rest h is = absurd (omega arith)
-  turn (suc n) d ts rest h is =
-      let back : suc n - 1 ≡ n = omega arith in
-      rw back (ap (λ (o : Option (List Placed)). by_option o (λ rest. then (next d rest) (λ d' after. more separator next n d' after)) (Ok (d, ts))) (sym is))
+module _ (separator : Tok → Bool) (next : ℕ → Run) where
+  pub begun : (s : Reader) → Sofar separator next s s
+  begun s = record { steps = count s.tokens; enough = omega arith; within = omega arith; end = refl; goes = refl }
+
+  -- what the item behind a separator gives is what the loop goes on with
+  turned : {s₀ s : Reader} (t : Tokens) (r : Read Draft) → (so : Sofar separator next s₀ s) → Skips separator s.tokens true t → r ≡ next (end_of t) s.draft (ahead t) →
+      more separator (next (end_of s₀.tokens)) (count s₀.tokens) s₀.draft (ahead s₀.tokens) ≡
+      then r (λ d ts. more separator (next (end_of s₀.tokens)) (so.steps - 1) d ts)
+  turned {s₀} {s} t r so skips is =
+      let less = past_shorter separator (ahead s.tokens) (ahead t) skips.value in
+      let here : r ≡ next (end_of s₀.tokens) s.draft (ahead t) = is ∙ ap (λ (end : ℕ). next end s.draft (ahead t)) (skips.moved.end ∙ so.end) in
+      so.goes ∙ turn separator (next (end_of s₀.tokens)) so.steps s.draft (ahead s.tokens) (ahead t) (omega (arith, so.enough)) skips.value ∙
+      ap (λ (q : Read Draft). then q (λ d ts. more separator (next (end_of s₀.tokens)) (so.steps - 1) d ts)) (sym here)
 
   -- one turn more
-  pub again : {d₀ : Draft} {ts₀ : List Placed} {d : Draft} {ts : List Placed} (rest : List Placed) (d' : Draft) (after : List Placed) →
-      Sofar separator next d₀ ts₀ d ts → Some rest ≡ past separator ts → Ok (d', after) ≡ next d rest → length after ≤ length rest → Sofar separator next d₀ ts₀ d' after
-  again {d} {ts} rest d' after so is went l =
-      let less = past_shorter separator ts rest is in
+  pub again : {s₀ s : Reader} (t : Tokens) (u : Reader) → Sofar separator next s₀ s → Skips separator s.tokens true t → left (Ok tt) u ≡ next (end_of t) s.draft (ahead t) →
+      Onward t u.tokens → Sofar separator next s₀ u
+  again {s₀} {s} t u so skips is on =
       record {
         steps = so.steps - 1;
-        enough = omega (arith, so.enough);
-        within = omega (arith, so.within);
-        goes = so.goes ∙ turn so.steps d ts rest (omega (arith, so.enough)) is ∙ ap (λ (r : Read Draft). then r (λ d'' us. more separator next (so.steps - 1) d'' us)) (sym went);
+        enough = omega (arith, so.enough, skips.moved.fewer, on.fewer);
+        within = omega (arith, so.within, skips.moved.fewer, on.fewer);
+        end = on.end ∙ skips.moved.end ∙ so.end;
+        goes = turned t (left (Ok tt) u) so skips is;
       }
 
   -- the row, from where the loop began
-  from_first : (first : Run) (d : Draft) (ts : List Placed) (d₀ : Draft) (ts₀ : List Placed) → Ok (d₀, ts₀) ≡ first d ts →
-      row separator first next d ts ≡ more separator next (length ts₀) d₀ ts₀
-  from_first first d ts d₀ ts₀ is = ap (λ (r : Read Draft). then r (λ d' rest. more separator next (length rest) d' rest)) (sym is)
+  from_first : (first : ℕ → Run) (s s₀ : Reader) → left (Ok tt) s₀ ≡ first (end_of s.tokens) s.draft (ahead s.tokens) → Onward s.tokens s₀.tokens →
+      row separator (first (end_of s.tokens)) (next (end_of s.tokens)) s.draft (ahead s.tokens) ≡
+      more separator (next (end_of s₀.tokens)) (count s₀.tokens) s₀.draft (ahead s₀.tokens)
+  from_first first s s₀ is on =
+      ap (λ (r : Read Draft). then r (λ d rest. more separator (next (end_of s.tokens)) (length rest) d rest)) (sym is) ∙
+      ap (λ (end : ℕ). more separator (next end) (count s₀.tokens) s₀.draft (ahead s₀.tokens)) (sym on.end)
 
   -- no separator follows
-  pub ended : (first : Run) (dd : Draft) (tokens : List Placed) {d₀ : Draft} {ts₀ : List Placed} {d : Draft} {ts : List Placed} →
-      Ok (d₀, ts₀) ≡ first dd tokens → Sofar separator next d₀ ts₀ d ts → None ≡ past separator ts → Ok (d, ts) ≡ row separator first next dd tokens
-  ended first dd tokens {d₀} {ts₀} {d} {ts} was so is = sym (from_first first dd tokens d₀ ts₀ was ∙ so.goes ∙ last so.steps d ts is)
+  pub ended : (first : ℕ → Run) (s s₀ u : Reader) (t : Tokens) → left (Ok tt) s₀ ≡ first (end_of s.tokens) s.draft (ahead s.tokens) → Onward s.tokens s₀.tokens →
+      Sofar separator next s₀ u → Skips separator u.tokens false t →
+      Ok (u.draft, ahead t) ≡ row separator (first (end_of s.tokens)) (next (end_of s.tokens)) s.draft (ahead s.tokens)
+  ended first s s₀ u t is on so skips =
+      ap (λ (v : Tokens). Ok (u.draft, ahead v)) skips.moved ∙
+      sym (from_first first s s₀ is on ∙ so.goes ∙ last separator (next (end_of s₀.tokens)) so.steps u.draft (ahead u.tokens) skips.value)
 
   -- a next one has a fault
-  pub failed : (first : Run) (dd : Draft) (tokens : List Placed) {d₀ : Draft} {ts₀ : List Placed} {d : Draft} {ts : List Placed} (rest : List Placed) (e : GrammarFault) →
-      Ok (d₀, ts₀) ≡ first dd tokens → Sofar separator next d₀ ts₀ d ts → Some rest ≡ past separator ts → Err e ≡ next d rest → Err e ≡ row separator first next dd tokens
-  failed first dd tokens {d₀} {ts₀} {d} {ts} rest e was so is bad =
-      let less = past_shorter separator ts rest is in
-      sym (from_first first dd tokens d₀ ts₀ was ∙ so.goes ∙ turn so.steps d ts rest (omega (arith, so.enough)) is ∙
-      ap (λ (r : Read Draft). then r (λ d' after. more separator next (so.steps - 1) d' after)) (sym bad))
+  pub failed : (first : ℕ → Run) (s s₀ u : Reader) (t : Tokens) (e : GrammarFault) → left (Ok tt) s₀ ≡ first (end_of s.tokens) s.draft (ahead s.tokens) → Onward s.tokens s₀.tokens →
+      Sofar separator next s₀ u → Skips separator u.tokens true t → Err e ≡ next (end_of t) u.draft (ahead t) →
+      Err e ≡ row separator (first (end_of s.tokens)) (next (end_of s.tokens)) s.draft (ahead s.tokens)
+  failed first s s₀ u t e is on so skips bad = sym (from_first first s s₀ is on ∙ turned t (Err e) so skips bad)
+
+-- what a row of calls reads, in a text of `end` bytes
+pub repeated : {gives : Calls} {separator : Tok → Bool} {s : Reader} {r : Result (Unit {0}) GrammarFault} {t : Reader} {end : ℕ} (run : ℕ → Run) →
+    Repeats gives separator s r t → Runs gives run → end_of s.tokens ≡ end → left r t ≡ row separator (run end) (run end) s.draft (ahead s.tokens)
+repeated {separator} {s} run repeats runs same = repeats.reads run runs ∙ ap (λ (e : ℕ). row separator (run e) (run e) s.draft (ahead s.tokens)) same

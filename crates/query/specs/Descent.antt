@@ -1,14 +1,16 @@
 -- Reading a text into a draft: the readers of the grammar, each over the draft that it changes. Assumes nothing.
-use Rattle.std.specs.Prelude.{ℕ, zero, suc, Bool, true, false, List, length, Ok, Err, Result}
-use Rattle.std.specs.Borrow.{Bor}
+use Rattle.std.specs.Prelude.{◌≡◌, ℕ, IfOk, zero, suc, Bool, true, false, List, length, Ok, Err, Result}
+use Rattle.std.specs.Borrow.{MutBor}
+use Rattle.grammar.specs.Shown.{Onward}
 use Rattle.grammar.specs.Known.{is_mark, is_word, variable_of, kind_of, number_of}
 use Rattle.grammar.specs.Reading.{Read, then, giving, expect, fixed, if_first, more, first_place, test_at, finished}
 use Rattle.grammar.specs.Syntax.{Syntax}
 use Rattle.grammar.specs.declared.fault.GrammarFault.{GrammarFault}
 use Rattle.grammar.specs.declared.fault.GrammarFault.TheVariants.{TooDeep}
-use Rattle.letters.specs.Tokens.{Tok, Placed, tokens_of}
+use Rattle.letters.specs.Tokens.{Tok, Placed, ahead, end_of}
 use Rattle.letters.specs.declared.symbol.Symbol.TheVariants.{Open, Close, Comma, Not, OpenSquare, CloseSquare}
 use Rattle.letters.specs.declared.word.Class.TheVariants as class
+use Rattle.query.specs.declared.descent.Reader.{Reader}
 use Rattle.sense.specs.Drafted.{part_begun, kind_added, part_ended, parts_ended, with_clauses, key_asked, clause_begun, clause_ended, joined, test_added, window_set}
 use Rattle.sense.specs.Drafting.{drafted}
 use Rattle.sense.specs.declared.clauses.Step.{Step}
@@ -16,16 +18,37 @@ use Rattle.sense.specs.declared.clauses.Step.TheVariants.{And, Or}
 use Rattle.sense.specs.declared.draft.Draft.{Draft}
 
 -- what a reader gives, and the draft that it leaves
-abbrev pub left : ℕ → Result (Bor (List ℕ)) GrammarFault → Draft → Read Draft
-left end (Ok rest) d = Ok (d, tokens_of end rest.now)
-left end (Err e) d = Err e
+abbrev pub left : Result (Unit {0}) GrammarFault → Reader → Read Draft
+left (Ok u) s = Ok (s.draft, ahead s.tokens)
+left (Err e) s = Err e
 
 abbrev pub Run : Type 0
 Run = Draft → List Placed → Read Draft
 
+-- a reader that goes from s over its tokens as `run` says, and leaves t; if it gives no fault, it took a token at least
+pub record Reads (run : ℕ → Run) (s : Reader) (r : Result (Unit {0}) GrammarFault) (t : Reader) : Type 0 where
+  pub value : left r t ≡ run (end_of s.tokens) s.draft (ahead s.tokens)
+  pub onward : IfOk r (λ u. Onward s.tokens t.tokens)
+
 -- first { separator next }
 abbrev pub row : (Tok → Bool) → Run → Run → Run
 row separator first next d ts = then (first d ts) (λ d' rest. more separator next (length rest) d' rest)
+
+-- calls of a reader go on where they give no fault
+abbrev pub Calls : Type 1
+Calls = MutBor Reader → Result (Unit {0}) GrammarFault → MutBor Reader → Type 0
+
+abbrev pub Advances : Calls → Type 0
+Advances gives = (s : MutBor Reader) (r : Result (Unit {0}) GrammarFault) (t : MutBor Reader) → gives s r t → IfOk r (λ u. Onward s.now.tokens t.now.tokens)
+
+-- they read as this says
+abbrev pub Runs : Calls → (ℕ → Run) → Type 0
+Runs gives run =
+    (s : MutBor Reader) (r : Result (Unit {0}) GrammarFault) (t : MutBor Reader) → gives s r t → left r t.now ≡ run (end_of s.now.tokens) s.now.draft (ahead s.now.tokens)
+
+-- a row of what they read
+pub record Repeats (gives : Calls) (separator : Tok → Bool) (s : Reader) (r : Result (Unit {0}) GrammarFault) (t : Reader) : Type 0 where
+  pub reads : (run : ℕ → Run) → Runs gives run → left r t ≡ row separator (run (end_of s.tokens)) (run (end_of s.tokens)) s.draft (ahead s.tokens)
 
 -- ---- parts
 
@@ -44,13 +67,13 @@ kinds_run end d ts =
 
 -- what follows the ! of a negative part at the place p
 abbrev pub negative_run : ℕ → ℕ → Run
-negative_run end p d ts =
+negative_run p end d ts =
     then (fixed (is_mark Open) end ts) (λ o inside. then (kinds_run end d inside) (λ d' after.
     then (expect variable_of end after) (λ v closing. giving (λ c. part_ended d' p true v) (fixed (is_mark Close) end closing))))
 
 abbrev pub part_run : ℕ → Run
 part_run end d ts =
-    if_first (is_mark Not) (λ p rest. negative_run end p (part_begun d) rest)
+    if_first (is_mark Not) (λ p rest. negative_run p end (part_begun d) rest)
     (λ us. then (kinds_run end (part_begun d) us) (λ d' after. giving (part_ended d' (first_place us) false) (expect variable_of end after))) ts
 
 abbrev pub parts_run : ℕ → Run

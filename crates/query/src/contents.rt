@@ -1,11 +1,12 @@
 // What is in a read query.
-ghost use Rattle.std.specs.Prelude.{◌≡◌, length, Ok, codes};
+ghost use Rattle.std.specs.Prelude.{◌≡◌, length, Ok, codes, count_by};
 ghost use Rattle.query.specs.Answer.{answer_of};
-ghost use Rattle.query.specs.Contents.{parts_with, tests_in};
+ghost use Rattle.query.specs.Contents.{parts_with, is_test, tests_in};
 ghost use Rattle.query.specs.Meant.{meaning, OneValue};
 ghost use Rattle.sense.specs.Meaning.{steps_of, ends_from};
 
 use crate::query::Query;
+use events::Kind;
 use sense::{BLANK, Part, Step};
 
 impl Query {
@@ -14,7 +15,7 @@ impl Query {
         ensures { answer_of (codes "EVENT SEQ(START a) WITHIN 1") ≡ Ok (meaning result) }
     {
         let mut kinds = [false; 16];
-        kinds[4] = true;
+        kinds[Kind::Start as usize] = true;
         let mut parts = [BLANK; 12];
         parts[0] = Part {
             negative: false,
@@ -33,12 +34,11 @@ impl Query {
         }
     }
 
-    // The parts, positive and negative, in order.
+    // The parts, positive and negative, in order. This, `steps` and `ends` are a line each; one function for the three would be no plainer.
     pub fn parts(&self) -> &[Part]
         ensures { result.now ≡ (meaning self.now).parts }
     {
-        let parts = &self.parts[..];
-        &parts[0..self.parts_len as usize]
+        &self.parts[..self.parts_len as usize]
     }
 
     // Whether all keys of a match have to be the same.
@@ -52,16 +52,14 @@ impl Query {
     pub fn steps(&self) -> &[Step]
         ensures { result.now ≡ steps_of (meaning self.now).clauses }
     {
-        let steps = &self.steps[..];
-        &steps[0..self.steps_len as usize]
+        &self.steps[..self.steps_len as usize]
     }
 
     // How many steps there are up to the end of each clause.
     pub fn ends(&self) -> &[u8]
         ensures { result.now ≡ ends_from 0 (meaning self.now).clauses }
     {
-        let ends = &self.ends[..];
-        &ends[0..self.clauses_len as usize]
+        &self.ends[..self.clauses_len as usize]
     }
 
     // In tenths of a second.
@@ -75,13 +73,10 @@ impl Query {
     pub fn count_parts(&self, negative: bool) -> usize
         ensures { result ≡ parts_with negative (meaning self.now).parts }
     {
-        let mut count = 0;
-        for part in self.parts() {
-            if part.negative == negative {
-                count += 1;
-            }
-        }
-        count
+        self.parts()
+            .iter()
+            .filter(|part| part.negative == negative)
+            .count()
     }
 
     // How many clauses there are besides those that ask for the key.
@@ -94,14 +89,17 @@ impl Query {
     pub fn count_tests(&self) -> usize
         ensures { result ≡ tests_in (meaning self.now).clauses }
     {
-        let mut count = 0;
-        for step in self.steps() {
-            if let Step::Test(_) = step {
-                count += 1;
-            }
-        }
-        count
+        tests_among(self.steps())
     }
+}
+
+fn tests_among(steps: &[Step]) -> usize
+    ensures { result ≡ count_by is_test steps.now }
+{
+    steps
+        .iter()
+        .filter(|step| matches!(step, Step::Test(_)))
+        .count()
 }
 
 // Queries that mean the same are the same in every field.

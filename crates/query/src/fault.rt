@@ -21,6 +21,7 @@ pub enum Fault {
     Sense(SenseFault),
 }
 
+// The three `From` are written out, since `from_gives` lets a contract name what `?` makes of a fault.
 impl From<LetterFault> for Fault {
     ghost from_gives = { λ e r. r ≡ Letters e };
 
@@ -93,19 +94,19 @@ impl Fault {
     pub fn word(self) -> &'static str
         ensures { result.now ≡ word_of self }
     {
-        match self.number() {
-            1 => "stray byte",
-            2 => "long number",
-            3 => "long text",
-            4 => "wrong token",
-            5 => "too deep",
-            6 => "unknown kind",
-            7 => "doubled",
-            8 => "unbound",
-            9 => "shape",
-            10 => "many tests",
-            11 => "two negatives",
-            _ => "window",
+        match self {
+            Fault::Letters(LetterFault::StrayByte(_)) => "stray byte",
+            Fault::Letters(LetterFault::LongNumber(_)) => "long number",
+            Fault::Letters(LetterFault::LongText) => "long text",
+            Fault::Grammar(GrammarFault::WrongToken(_)) => "wrong token",
+            Fault::Grammar(GrammarFault::TooDeep(_)) => "too deep",
+            Fault::Sense(SenseFault::UnknownKind(_)) => "unknown kind",
+            Fault::Sense(SenseFault::Doubled(_)) => "doubled",
+            Fault::Sense(SenseFault::Unbound(_)) => "unbound",
+            Fault::Sense(SenseFault::Shape(_)) => "shape",
+            Fault::Sense(SenseFault::ManyTests(_)) => "many tests",
+            Fault::Sense(SenseFault::TwoNegatives(_)) => "two negatives",
+            Fault::Sense(SenseFault::Window(_)) => "window",
         }
     }
 }

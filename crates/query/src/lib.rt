@@ -2,6 +2,7 @@
 #![tactic(auto)]
 
 mod contents;
+mod descent;
 mod fault;
 mod query;
 mod read_condition;

@@ -3,7 +3,8 @@ ghost use Rattle.query.specs.Held.{decoded, HoldsParts, HoldsSteps, HoldsEnds, I
 
 use sense::{Part, Step};
 
-// What a query text says. Only the reader makes one: whatever is in it stands for some text that is a query.
+// What a query text says. Only the reader makes one: whatever is in it stands for some text that is a query. Arrays with lengths, since a query
+// is fixed memory without a heap, and queries that mean the same are the same in every field.
 #[derive(Clone, Copy)]
 pub struct Query {
     pub(crate) parts: [Part; 12],

@@ -7,9 +7,9 @@ ghost use Rattle.query.specs.Descent.{as_draft};
 ghost use Rattle.query.specs.Judged.{DraftedFrom, Judges};
 ghost use Rattle.query.specs.Law.{LanguageLaw};
 
+use crate::descent::Reader;
 use crate::fault::Fault;
 use crate::query::Query;
-use crate::read_query::read_into_draft;
 use grammar::GrammarFault;
 use letters::check_letters;
 use sense::{Draft, SenseFault};
@@ -21,9 +21,9 @@ pub const DEEPEST: u8 = 8;
 fn check_grammar(text: &[u8]) -> Result<Draft, GrammarFault>
     ensures { result ≡ as_draft (query_at 8 (length text.now) (text_tokens text.now)) }
 {
-    let mut draft = Draft::new();
-    read_into_draft(text, DEEPEST, &mut draft)?;
-    Ok(draft)
+    let mut reader = Reader::new(text);
+    reader.read_query(DEEPEST)?;
+    Ok(reader.draft)
 }
 
 // The query that the draft of a text holds, unless it has a fault.
@@ -34,16 +34,13 @@ fn check_sense(draft: &Draft) -> Result<Query, SenseFault>
     if let Some(fault) = draft.fault {
         return Err(fault);
     }
-    let parts = draft.parts.kept;
-    let steps = draft.clauses.steps;
-    let ends = draft.clauses.ends;
     Ok(Query {
-        parts,
+        parts: draft.parts.kept,
         parts_len: draft.parts.len,
         key: draft.clauses.key,
-        steps,
+        steps: draft.clauses.steps,
         steps_len: draft.clauses.used,
-        ends,
+        ends: draft.clauses.ends,
         clauses_len: draft.clauses.len,
         window: draft.window,
     })

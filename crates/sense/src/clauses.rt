@@ -37,6 +37,7 @@ impl Negatives {
 pub struct Clauses {
     // whether all keys have to be the same
     pub key: bool,
+    // rooms with lengths, since libraries use no heap and equal readings are equal in every field (room.rt)
     // the first 47 steps
     pub steps: [Step; 47],
     pub used: u8,

@@ -16,7 +16,7 @@ pub struct Binding {
 
 #[derive(Clone, Copy)]
 pub struct Parts {
-    // the first 12
+    // the first 12, in a room with a length, since libraries use no heap (room.rt)
     pub kept: [Part; 12],
     pub len: u8,
     // who has a variable first, by its letter

@@ -14,6 +14,7 @@ pub fn show(
     let mut chunk = Vec::new(heap);
     let mut text = String::new(heap);
     let mut records = 0;
+    // until the input ends: a loop has a bound here
     for _ in 0..u64::MAX {
         chunk.clear();
         let filled = input.by_ref().take(size as u64).read_to_end(&mut chunk)?;

@@ -13,6 +13,7 @@ use std::fmt;
 pub fn describe(text: &mut String, log: &[u8], before: u64) -> Result<u64, fmt::Error>
     ensures { IfOk result (λ n. (string_bytes text.new ≡ string_bytes text.old ++ log_text before (log_of log.now)) × (n ≡ records_after before (log_of log.now))) }
 {
+    // Counted by hand: `enumerate` would go on beyond the largest number, and count the tail.
     let mut records = before;
     for item in Records::new(log) {
         let number = records.saturating_add(1);

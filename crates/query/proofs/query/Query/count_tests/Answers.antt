@@ -1,7 +1,7 @@
-use Rattle.std.proofs.Common.{count_by, ap, ◌∙◌, take_all}
-use Rattle.query.proofs.Contained.{is_test, steps_tests}
+use Rattle.std.proofs.Common.{count_by, ap, ◌∙◌}
+use Rattle.query.proofs.Contained.{steps_tests}
 use Rattle.query.proofs.query.Query.count_tests.Goals as goal
+use Rattle.query.specs.Contents.{is_test}
 
 pub returns : goal.returns
-returns c =
-    c.loop-step.invariant.0 ∙ ap (count_by is_test) (take_all _ _ c.loop-step-test.false ∙ c.steps-step-items.ensures) ∙ steps_tests _
+returns c = c.tests_among.ensures ∙ ap (count_by is_test) c.steps.ensures ∙ steps_tests _
