@@ -27,6 +27,7 @@ pub fn decode(bytes: &[u8; RECORD_LEN]) -> Event<Badge>
     }
 }
 
+// A number, as the kind of an event is.
 fn kind_bits(bytes: &[u8; RECORD_LEN]) -> u8
     ensures { result ≡ slice_index (values_in bytes.now) 0 }
 {

@@ -51,7 +51,7 @@ fn read_difference(left: Item<Name>, tokens: &mut Tokens) -> Result<Side<Name>, 
     Ok(Side::Difference(left, right))
 }
 
-// What may follow the first item of a side: an item to add or to take away.
+// What may follow the first item of a side: an item to add or to take away. Perhaps it takes no token, and so this is no `Takes`.
 fn read_side_from(left: Item<Name>, tokens: &mut Tokens) -> Result<Side<Name>, GrammarFault>
     ensures value { shown result tokens.new ≡ side_from (end_of tokens.old) left (ahead tokens.old) }
     ensures onward { IfOk result (λ _. NotBack tokens.old tokens.new) }

@@ -28,7 +28,7 @@ impl<'a> Reader<'a> {
         }
     }
 
-    // An item, and one more behind each separator.
+    // An item, and one more behind each separator. Two clauses and no `Reads`, since `item` may be any run.
     pub(crate) fn row<W: Wanted, F: Fn(&mut Reader<'a>) -> Result<(), GrammarFault> + Drop>(
         &mut self,
         separator: W,

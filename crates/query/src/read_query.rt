@@ -24,7 +24,7 @@ impl Reader<'_> {
         Ok(())
     }
 
-    // WHERE and clauses, or nothing.
+    // WHERE and clauses, or nothing. Perhaps it takes no token, and so this is no `Reads`.
     fn read_where(&mut self, depth: u8) -> Result<(), GrammarFault>
         ensures value { left result self.new ≡ where_run depth (end_of self.old.tokens) self.old.draft (ahead self.old.tokens) }
         ensures end { IfOk result (λ _. end_of self.new.tokens ≡ end_of self.old.tokens) }
