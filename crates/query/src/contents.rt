@@ -49,6 +49,7 @@ impl Query {
     }
 
     // The conditions of all clauses, each in postfix order, one behind the other.
+    #[tactic(auto, using(crate::proofs::Making::front))]
     pub fn steps(&self) -> &[Step]
         ensures { result.now ≡ steps_of (meaning self.now).clauses }
     {
@@ -56,6 +57,7 @@ impl Query {
     }
 
     // How many steps there are up to the end of each clause.
+    #[tactic(auto, using(crate::proofs::Making::front))]
     pub fn ends(&self) -> &[u8]
         ensures { result.now ≡ ends_from 0 (meaning self.now).clauses }
     {
@@ -80,6 +82,7 @@ impl Query {
     }
 
     // How many clauses there are besides those that ask for the key.
+    #[tactic(auto, using(crate::proofs::Making::as_many))]
     pub fn count_clauses(&self) -> usize
         ensures { result ≡ length (meaning self.now).clauses }
     {

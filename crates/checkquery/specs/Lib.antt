@@ -1,0 +1,3 @@
+pub mod Printed
+pub mod Quote
+pub mod Report
