@@ -8,8 +8,13 @@ use std::alloc::Global;
 use std::collections::BTreeMap;
 use std::fs;
 
-// The letters that Unicode takes apart, each with its two parts.
-type Published = BTreeMap<u32, [u32; 2]>;
+// What was published: the letters that Unicode takes apart, each with its two parts, and how many lines told of them. Where a letter
+// has several lines, the first holds.
+#[derive(Drop)]
+struct Published {
+    parts: BTreeMap<u32, [u32; 2]>,
+    lines: usize,
+}
 
 // How a code point as a name compares with what was published for it.
 #[derive(Drop)]
@@ -38,7 +43,7 @@ fn compare(rt: &HostRuntime) -> anyhow::Result<()> {
             Found::Differs => println!(rt; "U+{point:04X} differs")?,
         }
     }
-    let letters = published.len();
+    let letters = published.lines;
     let others = agreeing.saturating_sub(letters);
     println!(rt;
         "{letters} letters as published, {others} other code points unchanged, {refused} refused"
@@ -48,7 +53,7 @@ fn compare(rt: &HostRuntime) -> anyhow::Result<()> {
 
 // One code point as a name.
 fn judge(published: &Published, point: u32) -> Found {
-    match published.get(&point) {
+    match published.parts.get(&point) {
         Some(parts) => matched(point, parts),
         None => matched(point, &[point]),
     }
@@ -70,10 +75,16 @@ fn matched(point: u32, parts: &[u32]) -> Found {
 }
 
 fn parse_all(heap: Global, text: &str) -> anyhow::Result<Published> {
-    let mut published = BTreeMap::new(heap);
+    let mut published = Published {
+        parts: BTreeMap::new(heap),
+        lines: 0,
+    };
     for line in text.lines().filter(|line| !line.starts_with('#')) {
         let (whole, parts) = parse(line)?;
-        published.insert(whole, parts)?;
+        if !published.parts.contains_key(&whole) {
+            published.parts.insert(whole, parts)?;
+        }
+        published.lines = published.lines.saturating_add(1);
     }
     Ok(published)
 }
@@ -87,4 +98,19 @@ fn parse(line: &str) -> anyhow::Result<(u32, [u32; 2])> {
 
 fn hex(digits: &str) -> anyhow::Result<u32> {
     Ok(u32::from_str_radix(digits, 16)?)
+}
+
+#[cfg(test)]
+mod tests {
+    use super::*;
+    use std::test::Fail;
+
+    #[test]
+    fn first_line_of_a_letter_holds(rt: HostRuntime) -> Result<(), Fail> {
+        let text = "# a letter on two lines\n00C0;0041 0300\n00C0;0041 0301\n";
+        let published = parse_all(rt.alloc(), text)?;
+        assert!(rt; published.lines == 2);
+        assert!(rt; published.parts.get(&0xC0) == Some(&[0x41, 0x300]));
+        Ok(())
+    }
 }

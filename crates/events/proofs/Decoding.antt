@@ -144,7 +144,7 @@ word_is bytes at r h =
 abbrev word_at : List ℕ → ℕ → ℕ
 word_at bytes at = number_of (take 4 (drop at bytes))
 
-record_from : (bytes : List ℕ) → length bytes ≡ 24 → ((i : ℕ) → get_or bytes i 0 < 2 ^ 8) → Record bytes
+pub record_from : (bytes : List ℕ) → length bytes ≡ 24 → ((i : ℕ) → get_or bytes i 0 < 2 ^ 8) → Record bytes
 record_from bytes long small = (long, All-from_get_or (λ b. b < 2 ^ 8) bytes 0 (λ i h. small i))
 
 -- the fields by the words that they stand in

@@ -1,10 +1,10 @@
 -- What the readers of single tokens give, and how other readers go on from there. Assumes nothing.
-use Rattle.std.proofs.Common.{◌≡◌, ℕ, Bool, true, false, cond, List, [], ◌∷◌, Option, Result, Some, None, sym, refl, ap, ◌∙◌, arith}
+use Rattle.std.proofs.Common.{◌≡◌, ℕ, Bool, true, false, cond, List, [], ◌∷◌, Option, Result, Some, None, sym, refl, ap, ◌∙◌, subst, arith}
 use Rattle.std.specs.Borrow.{Bor}
 use Rattle.std.specs.Option.{option_map}
 use Rattle.grammar.specs.Known.{kind_of}
 use Rattle.grammar.specs.Reading.{Read, known, expect, if_first, by_option, past, first_place}
-use Rattle.grammar.specs.Shown.{shown, shown_by, bytes_and_place, Known}
+use Rattle.grammar.specs.Shown.{shown, shown_by, bytes_and_place, Skips, Known}
 use Rattle.grammar.specs.Shown.Known.{knows, wrong, ends}
 use Rattle.grammar.specs.declared.fault.GrammarFault.{GrammarFault}
 use Rattle.letters.specs.Tokens.{Tok, Placed, seen, first_of, ahead, end_of}
@@ -16,8 +16,8 @@ pub expect_told : {X Y : Type 0} {gives : Token → Option X → Type 0} (f : To
     ((x : Token) (o : Option X) → gives x o → option_map g o ≡ f (seen x)) → shown_by (λ (p : X × ℕ). (g p.0, p.1)) r t ≡ expect f (end_of s) (ahead s)
 expect_told f g s t r (knows x it is gave) same =
     sym (ap (expect f (end_of s)) is ∙ ap (λ (o : Option _). known o x.place (ahead t)) (sym (same x.token (Some it) gave)))
-expect_told f g s t r (wrong x is gave) same =
-    sym (ap (expect f (end_of s)) is ∙ ap (λ (o : Option _). known o x.place (ahead t)) (sym (same x.token None gave)))
+expect_told f g s t r (wrong x after is gave) same =
+    sym (ap (expect f (end_of s)) is ∙ ap (λ (o : Option _). known o x.place after) (sym (same x.token None gave)))
 expect_told f g s t r (ends is) same = sym (ap (expect f (end_of s)) is)
 
 pub expect_at : {X : Type 0} {gives : Token → Option X → Type 0} (f : Tok → Option X) (s t : Tokens) (r : Result (X × ℕ) GrammarFault) → Known gives s t r →
@@ -54,3 +54,15 @@ if_first_miss f hit miss ts is = choice f hit miss ts ∙ ap (λ (o : Option (Li
 pub first_at : (ts : List Placed) (t : Placed) → first_of ts ≡ Some t → first_place ts ≡ t.1
 first_at [] t is = let z : ◌≡◌ {A = ℕ} 0 1 = cc in absurd (omega arith)
 first_at (u ∷ ts) t is = let same : u ≡ t = cc in ap (λ (p : Placed). p.1) same
+
+-- likewise, from the place alone
+pub place_at : (ts : List Placed) (p : ℕ) → option_map (λ (t : Placed). t.1) (first_of ts) ≡ Some p → first_place ts ≡ p
+place_at [] p is = let z : ◌≡◌ {A = ℕ} 0 1 = cc in absurd (omega arith)
+place_at (u ∷ ts) p is = cc
+
+-- a look that took the first token, and one that left it
+pub taken : (f : Tok → Bool) (s t : Tokens) (b : Bool) → Skips f s b t → b ≡ true → Skips f s true t
+taken f s t b k e = subst (λ (x : Bool). Skips f s x t) e k
+
+pub stayed : (f : Tok → Bool) (s t : Tokens) (b : Bool) → Skips f s b t → b ≡ false → Skips f s false t
+stayed f s t b k e = subst (λ (x : Bool). Skips f s x t) e k

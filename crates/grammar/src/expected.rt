@@ -1,8 +1,8 @@
-// Single tokens: each of these takes one off the front of those that lie ahead.
-ghost use Rattle.std.specs.Prelude.{IfOk};
+// Single tokens: each of these takes one off the front of those that lie ahead, or finds a fault and takes none.
+ghost use Rattle.std.specs.Prelude.{◌≡◌, IfOk, OnErr};
 ghost use Rattle.grammar.specs.Known.{variable_of, reading_of, kind_of, number_of, comparison_of};
 ghost use Rattle.grammar.specs.Reading.{fixed, expect};
-ghost use Rattle.grammar.specs.Shown.{Takes, TakesAs, bytes_and_place, First, Next, Onward, Skips, Known};
+ghost use Rattle.grammar.specs.Shown.{Takes, TakesAs, bytes_and_place, First, Next, Onward, Skips, Looks, Known};
 
 use crate::fault::GrammarFault;
 use crate::known::{Wanted, comparison_of, kind_of, number_of, reading_of, variable_of};
@@ -20,6 +20,7 @@ pub fn first<'a>(tokens: &Tokens<'a>) -> Result<Spanned<'a>, GrammarFault>
 pub fn next<'a>(tokens: &mut Tokens<'a>) -> Result<Spanned<'a>, GrammarFault>
     ensures value { Next tokens.old result tokens.new }
     ensures onward { IfOk result (λ _. Onward tokens.old tokens.new) }
+    ensures back { OnErr result (tokens.new ≡ tokens.old) }
 {
     let end = tokens.end();
     tokens.next().ok_or(GrammarFault::WrongToken(end))
@@ -29,11 +30,9 @@ pub fn next<'a>(tokens: &mut Tokens<'a>) -> Result<Spanned<'a>, GrammarFault>
 pub fn expect<W: Wanted>(tokens: &mut Tokens, wanted: W) -> Result<usize, GrammarFault>
     ensures { Takes (fixed (W.test wanted)) tokens.old result tokens.new }
 {
-    let token = next(tokens)?;
-    if wanted.matches(token.token) {
-        Ok(token.place)
-    } else {
-        Err(GrammarFault::WrongToken(token.place))
+    match look_for(tokens, wanted)? {
+        (place, true) => Ok(place),
+        (place, false) => Err(GrammarFault::WrongToken(place)),
     }
 }
 
@@ -41,13 +40,27 @@ pub fn expect<W: Wanted>(tokens: &mut Tokens, wanted: W) -> Result<usize, Gramma
 pub fn skip<W: Wanted>(tokens: &mut Tokens, wanted: W) -> bool
     ensures { Skips (W.test wanted) tokens.old result tokens.new }
 {
-    match tokens.peek() {
+    let mut behind = *tokens;
+    match behind.next() {
         Some(token) if wanted.matches(token.token) => {
-            tokens.next();
+            *tokens = behind;
             true
         }
         _ => false,
     }
+}
+
+// Takes what is wanted, if it comes next: the place of the next token, and whether it was taken.
+pub fn look_for<W: Wanted>(tokens: &mut Tokens, wanted: W) -> Result<(usize, bool), GrammarFault>
+    ensures { Looks (W.test wanted) tokens.old result tokens.new }
+{
+    let mut after = *tokens;
+    let token = next(&mut after)?;
+    let found = wanted.matches(token.token);
+    if found {
+        *tokens = after;
+    }
+    Ok((token.place, found))
 }
 
 // A token that `know` knows: what it is, and its place. Here and at `next` the clause `onward` stands by itself, since `Takes` wants a reader of the
@@ -59,10 +72,15 @@ fn expect_known<'a, T: Drop, F: Fn(Token<'a>) -> Option<T> + Drop>(
     requires { F.IsAlwaysCallable know }
     ensures value { Known (λ x it. F.post know x it) tokens.old tokens.new result }
     ensures onward { IfOk result (λ _. Onward tokens.old tokens.new) }
+    ensures back { OnErr result (tokens.new ≡ tokens.old) }
 {
-    let token = next(tokens)?;
+    let mut ahead = *tokens;
+    let token = next(&mut ahead)?;
     match know(token.token) {
-        Some(it) => Ok((it, token.place)),
+        Some(it) => {
+            *tokens = ahead;
+            Ok((it, token.place))
+        }
         None => Err(GrammarFault::WrongToken(token.place)),
     }
 }

@@ -8,7 +8,9 @@ mod law;
 mod test;
 mod tested;
 
-pub use expected::{expect, expect_kind, expect_number, expect_variable, first, next, skip};
+pub use expected::{
+    expect, expect_kind, expect_number, expect_variable, first, look_for, next, skip,
+};
 pub use fault::GrammarFault;
 pub use known::Wanted;
 pub use law::grammar_holds;

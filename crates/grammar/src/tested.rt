@@ -2,19 +2,17 @@
 ghost use Rattle.std.specs.Prelude.{◌≡◌, IfOk};
 ghost use Rattle.grammar.specs.declared.test.Side.TheVariants.{Sum, Difference};
 ghost use Rattle.grammar.specs.Reading.{giving, item_at, side_from, side_at, test_at};
-ghost use Rattle.grammar.specs.Shown.{shown, Takes, TakesAs, as_written, NotBack};
+ghost use Rattle.grammar.specs.Shown.{shown, TakesAs, GoesOn, GoesOnAs, as_written, NotBack};
 ghost use Rattle.letters.specs.Tokens.{ahead, end_of};
 
-use crate::expected::{
-    expect, expect_comparison, expect_number, expect_reading, first, next, skip,
-};
+use crate::expected::{expect, expect_comparison, expect_number, expect_reading, first, next};
 use crate::fault::GrammarFault;
 use crate::known::{Wanted, number_of, variable_of};
 use crate::test::{Item, Name, Side, Test};
-use letters::{Symbol, Tokens};
+use letters::{Symbol, Token, Tokens};
 
 fn read_item(tokens: &mut Tokens) -> Result<Item<Name>, GrammarFault>
-    ensures { Takes item_at tokens.old result tokens.new }
+    ensures { GoesOn item_at tokens.old result tokens.new }
 {
     let token = next(tokens)?;
     if Symbol::Minus.matches(token.token) {
@@ -37,7 +35,7 @@ fn read_item(tokens: &mut Tokens) -> Result<Item<Name>, GrammarFault>
 }
 
 fn read_sum(left: Item<Name>, tokens: &mut Tokens) -> Result<Side<Name>, GrammarFault>
-    ensures { Takes (λ end ts. giving (Sum left) (item_at end ts)) tokens.old result tokens.new }
+    ensures { GoesOn (λ end ts. giving (Sum left) (item_at end ts)) tokens.old result tokens.new }
 {
     let right = read_item(tokens)?;
     Ok(Side::Sum(left, right))
@@ -45,36 +43,40 @@ fn read_sum(left: Item<Name>, tokens: &mut Tokens) -> Result<Side<Name>, Grammar
 
 // Beside `read_sum`, since one function over both would take a closure and a longer contract.
 fn read_difference(left: Item<Name>, tokens: &mut Tokens) -> Result<Side<Name>, GrammarFault>
-    ensures { Takes (λ end ts. giving (Difference left) (item_at end ts)) tokens.old result tokens.new }
+    ensures { GoesOn (λ end ts. giving (Difference left) (item_at end ts)) tokens.old result tokens.new }
 {
     let right = read_item(tokens)?;
     Ok(Side::Difference(left, right))
 }
 
-// What may follow the first item of a side: an item to add or to take away. Perhaps it takes no token, and so this is no `Takes`.
+// What may follow the first item of a side: an item to add or to take away. Perhaps it takes no token, and so this is no `GoesOn`.
 fn read_side_from(left: Item<Name>, tokens: &mut Tokens) -> Result<Side<Name>, GrammarFault>
     ensures value { shown result tokens.new ≡ side_from (end_of tokens.old) left (ahead tokens.old) }
     ensures onward { IfOk result (λ _. NotBack tokens.old tokens.new) }
 {
-    if skip(tokens, Symbol::Plus) {
-        return read_sum(left, tokens);
+    let mut after = *tokens;
+    match after.next().map(|sign| sign.token) {
+        Some(Token::Mark(Symbol::Plus)) => {
+            *tokens = after;
+            read_sum(left, tokens)
+        }
+        Some(Token::Mark(Symbol::Minus)) => {
+            *tokens = after;
+            read_difference(left, tokens)
+        }
+        _ => Ok(Side::Alone(left)),
     }
-    if skip(tokens, Symbol::Minus) {
-        return read_difference(left, tokens);
-    }
-    Ok(Side::Alone(left))
 }
 
 fn read_side(tokens: &mut Tokens) -> Result<Side<Name>, GrammarFault>
-    ensures { Takes side_at tokens.old result tokens.new }
+    ensures { GoesOn side_at tokens.old result tokens.new }
 {
     let left = read_item(tokens)?;
     read_side_from(left, tokens)
 }
 
-// A test, and the place of its first token.
-pub fn read_test(tokens: &mut Tokens) -> Result<(Test<Name>, usize), GrammarFault>
-    ensures { TakesAs as_written test_at tokens.old result tokens.new }
+fn read_whole(tokens: &mut Tokens) -> Result<(Test<Name>, usize), GrammarFault>
+    ensures { GoesOnAs as_written test_at tokens.old result tokens.new }
 {
     let place = first(tokens)?.place;
     let left = read_side(tokens)?;
@@ -86,4 +88,14 @@ pub fn read_test(tokens: &mut Tokens) -> Result<(Test<Name>, usize), GrammarFaul
         right,
     };
     Ok((test, place))
+}
+
+// A test, and the place of its first token. Where it finds a fault it takes no token.
+pub fn read_test(tokens: &mut Tokens) -> Result<(Test<Name>, usize), GrammarFault>
+    ensures { TakesAs as_written test_at tokens.old result tokens.new }
+{
+    let mut after = *tokens;
+    let test = read_whole(&mut after)?;
+    *tokens = after;
+    Ok(test)
 }

@@ -1,4 +1,4 @@
--- The table's rule, by tests that compute over the table, and what it gives for a search. Assumes nothing.
+-- The table's rule, by one test that computes over the table, and what it gives for a search. Assumes nothing.
 use Rattle.std.proofs.Common.{◌≡◌, ℕ, zero, suc, ◌<◌, ◌≤◌, Bool, true, not, ◌&&◌, List, [], ◌∷◌, length, get_or, is_some, Some, None, Option, Result, Ok, Err, MatchOption, ◌==◌, ◌≢◌, slice_index_or, refl, ap, sym, ◌∙◌, ⊎_elim, arith}
 use Rattle.keys.specs.Letters.{table, letter, found, rises, Ascending, Closed}
 use Rattle.keys.specs.declared.letters.Letter.{Letter}
@@ -20,13 +20,6 @@ rises_ascending (l ∷ ls) t i zero d less h = absurd (omega arith)
 rises_ascending (l ∷ ls) t zero (suc j) d less h = ltb-true _ _ (AllPass-from_list_all _ ls (and_parts _ _ t).0 j d (omega arith))
 rises_ascending (l ∷ ls) t (suc i) (suc j) d less h = rises_ascending ls (and_parts _ _ t).1 i j d (omega arith) (omega arith)
 
-passes_rises : rises table ≡ true
-unfolding table
-passes_rises = refl
-
-pub table_rises : Ascending table
-table_rises = rises_ascending table passes_rises
-
 absent : (o : Option Letter) → not (is_some o) ≡ true → o ≡ None
 absent o t = grind arith
 
@@ -34,13 +27,21 @@ absent o t = grind arith
 closed : Letter → Bool
 closed l = not (is_some (found table l.base)) && not (is_some (found table l.mark))
 
-passes_closed : list_all closed table ≡ true
-unfolding table closed
-passes_closed = refl
+-- the test of the table
+sound : Bool
+sound = rises table && list_all closed table
+
+passes : sound ≡ true
+unfolding table closed sound
+passes = refl
+
+pub table_rises : Ascending table
+unfolding sound
+table_rises = rises_ascending table (and_parts _ _ passes).0
 
 pub table_closed : Closed table
-unfolding closed
-table_closed i d h = let p = and_parts _ _ (AllPass-from_list_all closed table passes_closed i d h) in (absent _ p.0, absent _ p.1)
+unfolding closed sound
+table_closed i d h = let p = and_parts _ _ (AllPass-from_list_all closed table (and_parts _ _ passes).1 i d h) in (absent _ p.0, absent _ p.1)
 
 -- where no entry before k is for c, and the one at k, if there is one, is, that one is found
 found_first : (ls : List Letter) (c k : ℕ) (d : Letter) → k ≤ length ls → ((j : ℕ) → j < k → (get_or ls j d).composed ≢ c) →

@@ -88,8 +88,9 @@ fn past_blanks(text: &[u8]) -> &[u8]
     rest
 }
 
-// Gives the tokens of a text, one after another, each with its place in the whole text.
-#[derive(Drop)]
+// Gives the tokens of a text, one after another, each with its place in the whole text. It is a place in a text and may be copied: a reader that
+// may find a fault goes on with a copy.
+#[derive(Clone, Copy)]
 pub struct Tokens<'a> {
     // what is left of the text
     rest: &'a [u8],

@@ -3,7 +3,7 @@
 ghost use Rattle.query.specs.Descent.{Reads, unit_run, all_run, either_run};
 
 use crate::descent::Reader;
-use grammar::{GrammarFault, expect, first, read_test, skip};
+use grammar::{GrammarFault, expect, look_for, read_test, skip};
 use letters::{Class, Symbol};
 use sense::Step;
 
@@ -13,8 +13,8 @@ impl Reader<'_> {
     pub(crate) fn read_unit(&mut self, depth: u8) -> Result<(), GrammarFault>
         ensures { Reads (unit_run depth) self.old result self.new }
     {
-        let place = first(&self.tokens)?.place;
-        if !skip(&mut self.tokens, Symbol::Open) {
+        let (place, opens) = look_for(&mut self.tokens, Symbol::Open)?;
+        if !opens {
             let (test, place) = read_test(&mut self.tokens)?;
             self.draft.test(test, place);
             return Ok(());

@@ -2,7 +2,7 @@
 ghost use Rattle.query.specs.Descent.{Reads, kind_run, kinds_run, negative_run, part_run};
 
 use crate::descent::Reader;
-use grammar::{GrammarFault, expect, expect_kind, expect_variable, first, skip};
+use grammar::{GrammarFault, expect, expect_kind, expect_variable, look_for, skip};
 use letters::{Class, Symbol};
 
 impl Reader<'_> {
@@ -42,9 +42,9 @@ impl Reader<'_> {
     pub(crate) fn read_part(&mut self) -> Result<(), GrammarFault>
         ensures { Reads part_run self.old result self.new }
     {
-        let place = first(&self.tokens)?.place;
+        let (place, negative) = look_for(&mut self.tokens, Symbol::Not)?;
         self.draft.begin_part();
-        if skip(&mut self.tokens, Symbol::Not) {
+        if negative {
             return self.read_negative(place);
         }
         self.read_kinds()?;

@@ -4,15 +4,15 @@ ghost use Rattle.letters.specs.Tokens.{ahead, end_of};
 ghost use Rattle.query.specs.Descent.{left, Reads, whole, clause_run, where_run, sequence_run, window_run, query_run};
 
 use crate::descent::Reader;
-use grammar::{GrammarFault, expect, expect_number, first, skip};
+use grammar::{GrammarFault, expect, expect_number, look_for, skip};
 use letters::{Class, Symbol};
 
 impl Reader<'_> {
     fn read_clause(&mut self, depth: u8) -> Result<(), GrammarFault>
         ensures { Reads (clause_run depth) self.old result self.new }
     {
-        let place = first(&self.tokens)?.place;
-        if skip(&mut self.tokens, Symbol::OpenSquare) {
+        let (place, asks_key) = look_for(&mut self.tokens, Symbol::OpenSquare)?;
+        if asks_key {
             expect(&mut self.tokens, Class::Key)?;
             expect(&mut self.tokens, Symbol::CloseSquare)?;
             self.draft.ask_key();

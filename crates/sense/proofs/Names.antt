@@ -26,14 +26,14 @@ use Rattle.std.specs.declared.option.Option.TheVariants as option
 abbrev pub all_used : Negatives → List ℕ → Negatives
 all_used ns vs = fold negatives_with ns vs
 
-several_stay : (vs : List ℕ) → all_used Several vs ≡ Several
-several_stay [] = refl
-several_stay (v ∷ vs) = several_stay vs
+several_stay : (u : ℕ) (vs : List ℕ) → all_used (Several u) vs ≡ Several u
+several_stay u [] = refl
+several_stay u (v ∷ vs) = several_stay u vs
 
 several_from : (b : Bool) (u : ℕ) (vs : List ℕ) → are_several (all_used (One u) vs) ≡ other_than u vs →
-    are_several (all_used (cond b (One u) Several) vs) ≡ (not b || other_than u vs)
+    are_several (all_used (cond b (One u) (Several u)) vs) ≡ (not b || other_than u vs)
 several_from true u vs e = e
-several_from false u vs e = ap are_several (several_stay vs)
+several_from false u vs e = ap are_several (several_stay u vs)
 
 several_other : (u : ℕ) (vs : List ℕ) → are_several (all_used (One u) vs) ≡ other_than u vs
 several_other u [] = refl

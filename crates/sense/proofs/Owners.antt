@@ -1,14 +1,16 @@
 -- Parts behind others: who has a variable, how many are positive, and which is the last. Assumes nothing.
 use Rattle.std.proofs.lemmas.Bool.Decides.{nat_tests}
-use Rattle.std.proofs.Common.{◌≡◌, ℕ, ◌+◌, ◌≤◌, Bool, true, false, cond, eqb, List, [], ◌∷◌, ◌++◌, length, is_some, Some, None, Option, refl, ap, ◌∙◌, arith}
+use Rattle.std.proofs.Common.{◌≡◌, ℕ, ◌+◌, ◌≤◌, Bool, true, false, cond, eqb, List, [], ◌∷◌, ◌++◌, length, Some, None, Option, refl, ap, ◌∙◌, arith}
 use Rattle.grammar.specs.Syntax.{Part}
 use Rattle.sense.proofs.Faulted.{faulted}
-use Rattle.sense.specs.Drafted.{parts_ended_by}
+use Rattle.sense.specs.Drafted.{last_at, last_negative, parts_ended_by}
 use Rattle.sense.specs.Meaning.{number_in}
 use Rattle.sense.specs.declared.draft.Draft.{Draft}
 use Rattle.std.specs.Option.{option_or}
 use Rattle.sense.specs.Sense.{owner_from, owner, positives, ends_negative, last_faults, fault_where}
 use Rattle.sense.specs.declared.fault.SenseFault.TheVariants.{Shape}
+use Rattle.sense.specs.declared.parts.LastPart.{LastPart}
+use Rattle.sense.specs.declared.parts.LastPart.TheVariants.{Positive}
 
 -- the owner if there is one more part
 abbrev pub owns : Part → ℕ → ℕ → Option (ℕ × Bool)
@@ -41,32 +43,32 @@ ends_push [] p = refl
 ends_push (r ∷ []) p = refl
 ends_push (r ∷ s ∷ ps) p = ends_push (s ∷ ps) p
 
--- the place of the last part, if that one is negative
-abbrev pub last_negative : List Part → Option ℕ
-last_negative [] = None
-last_negative (p ∷ []) = cond p.negative (Some p.place) None
-last_negative (p ∷ r ∷ ps) = last_negative (r ∷ ps)
+-- the last part, as a draft keeps it
+abbrev pub last_part : List Part → LastPart
+last_part [] = Positive 0
+last_part (p ∷ []) = last_at p.place p.negative
+last_part (p ∷ r ∷ ps) = last_part (r ∷ ps)
 
-pub last_push : (ps : List Part) (p : Part) → last_negative (ps ++ (p ∷ [])) ≡ cond p.negative (Some p.place) None
+pub last_push : (ps : List Part) (p : Part) → last_part (ps ++ (p ∷ [])) ≡ last_at p.place p.negative
 last_push [] p = refl
 last_push (r ∷ []) p = refl
 last_push (r ∷ s ∷ ps) p = last_push (s ∷ ps) p
 
-is_some_if : (b : Bool) (place : ℕ) → is_some (cond b (Some place) None) ≡ b
-is_some_if true place = refl
-is_some_if false place = refl
+negative_at : (b : Bool) (place : ℕ) → last_negative (last_at place b) ≡ b
+negative_at true place = refl
+negative_at false place = refl
 
-pub last_ends : (ps : List Part) → is_some (last_negative ps) ≡ ends_negative ps
+pub last_ends : (ps : List Part) → last_negative (last_part ps) ≡ ends_negative ps
 last_ends [] = refl
-last_ends (p ∷ []) = is_some_if p.negative p.place
+last_ends (p ∷ []) = negative_at p.negative p.place
 last_ends (p ∷ r ∷ ps) = last_ends (r ∷ ps)
 
 -- what a negative part at the end does to a draft
-ended_if : (b : Bool) (place : ℕ) (d : Draft) → parts_ended_by (cond b (Some place) None) d ≡ faulted d (fault_where b (Shape place))
+ended_if : (b : Bool) (place : ℕ) (d : Draft) → parts_ended_by (last_at place b) d ≡ faulted d (fault_where b (Shape place))
 ended_if true place d = refl
 ended_if false place d = refl
 
-pub last_is : (ps : List Part) (d : Draft) → parts_ended_by (last_negative ps) d ≡ faulted d (last_faults ps)
+pub last_is : (ps : List Part) (d : Draft) → parts_ended_by (last_part ps) d ≡ faulted d (last_faults ps)
 last_is [] d = refl
 last_is (p ∷ []) d = ended_if p.negative p.place d
 last_is (p ∷ r ∷ ps) d = last_is (r ∷ ps) d

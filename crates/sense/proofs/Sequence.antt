@@ -6,9 +6,9 @@ use Rattle.grammar.specs.Syntax.{Part}
 use Rattle.sense.proofs.Faulted.{faulted, fault_if_is}
 use Rattle.sense.proofs.Least.{least_append}
 use Rattle.sense.proofs.Listed.{kinds_set, kinds_changed, kinds_is, kinds_set_all}
-use Rattle.sense.proofs.Owners.{owner_push, positives_push, last_negative, last_push, last_ends}
+use Rattle.sense.proofs.Owners.{owner_push, positives_push, last_part, last_push, last_ends}
 use Rattle.sense.proofs.Rooms.{one_more_min, eqb_min, kept_laid}
-use Rattle.sense.specs.Drafted.{no_kinds, blank, no_parts, kept_with, one_more, fault_if, with_parts, with_kinds, part_begun, binding_in, bound_with, part_kept, misplaced_in, part_ended}
+use Rattle.sense.specs.Drafted.{no_kinds, blank, no_parts, kept_with, one_more, fault_if, with_parts, with_kinds, part_begun, binding_in, bound_with, last_negative, part_kept, misplaced_in, part_ended}
 use Rattle.sense.specs.Drafting.{part_drafted, parts_drafted}
 use Rattle.sense.specs.Faults.{least_from}
 use Rattle.sense.specs.Meaning.{part_of, laid}
@@ -71,7 +71,7 @@ pub record Stands (ps : Parts) (before : List Part) : Type 0 where
   pub len : ps.len ≡ min 12 (length before)
   pub kept : length before ≤ 12 → ps.kept ≡ laid 12 blank (map part_of before)
   pub positives : ps.positives ≡ min 7 (positives before)
-  pub last : ps.last_negative ≡ last_negative before
+  pub last : ps.last ≡ last_part before
 
 pub stands_none : Stands no_parts []
 stands_none = record {
@@ -140,7 +140,7 @@ some_bound (Some o) = refl
 seen_is : (ps : Parts) (before : List Part) (p : Part) → Stands ps before → seen_faults ps p ≡ part_faults before p
 seen_is ps before p s =
     let twice : is_some (binding_in ps p.variable.letter) ≡ is_some (owner before p.variable.letter) = ap is_some (s.owned p.variable.letter) ∙ some_bound (owner before p.variable.letter) in
-    let row = ap is_some s.last ∙ last_ends before in
+    let row = ap last_negative s.last ∙ last_ends before in
     let six = eqb_min 6 ps.positives (positives before) s.positives in
     λ i. unknown_kinds p.kinds ++ (fault_where (twice i) (Doubled p.variable.place) ++ fault_where (cond p.negative (row i) (six i)) (Shape p.place))
 

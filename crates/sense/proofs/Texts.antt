@@ -1,5 +1,5 @@
 -- The draft of a whole text. Assumes nothing.
-use Rattle.std.proofs.Common.{◌≡◌, ℕ, List, [], ◌++◌, None, Option, sym, ap, ◌∙◌}
+use Rattle.std.proofs.Common.{◌≡◌, List, [], ◌++◌, None, Option, sym, ap, ◌∙◌}
 use Rattle.grammar.specs.Syntax.{Syntax}
 use Rattle.sense.proofs.Conditions.{clauses_after, clauses_are}
 use Rattle.sense.proofs.Faulted.{faulted, fault_if_is}
@@ -15,6 +15,7 @@ use Rattle.sense.specs.declared.clauses.Clauses.{Clauses}
 use Rattle.sense.specs.declared.draft.Draft.{Draft}
 use Rattle.sense.specs.declared.fault.SenseFault.{SenseFault}
 use Rattle.sense.specs.declared.fault.SenseFault.TheVariants.{Window}
+use Rattle.sense.specs.declared.parts.LastPart.{LastPart}
 use Rattle.sense.specs.declared.parts.Parts.{Parts}
 
 abbrev sequence : Syntax → Draft
@@ -32,7 +33,7 @@ parts_stand q l = (sequence_read q l).stands
 
 ended_is : (q : Syntax) → Lettered q → parts_ended (sequence q) ≡ faulted (sequence q) (last_faults q.parts)
 ended_is q l =
-    ap (λ (o : Option ℕ). parts_ended_by o (sequence q)) (parts_stand q l).last ∙ last_is q.parts (sequence q)
+    ap (λ (x : LastPart). parts_ended_by x (sequence q)) (parts_stand q l).last ∙ last_is q.parts (sequence q)
 
 window_is : (d : Draft) (q : Syntax) →
     window_set d (q.window, q.window_place) ≡ faulted (record { parts = d.parts; clauses = d.clauses; window = q.window; fault = d.fault }) (window_faults q)

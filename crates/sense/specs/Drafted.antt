@@ -18,6 +18,8 @@ use Rattle.sense.specs.declared.fault.SenseFault.{SenseFault}
 use Rattle.sense.specs.declared.fault.SenseFault.TheVariants.{UnknownKind, Doubled, Unbound, Shape, ManyTests, TwoNegatives, Window}
 use Rattle.sense.specs.declared.part.Part.{Part}
 use Rattle.sense.specs.declared.parts.Binding.{Binding}
+use Rattle.sense.specs.declared.parts.LastPart.{LastPart}
+use Rattle.sense.specs.declared.parts.LastPart.TheVariants.{Positive, Negative}
 use Rattle.sense.specs.declared.parts.Parts.{Parts}
 
 -- no kinds
@@ -27,8 +29,9 @@ no_kinds = replicate 16 false
 abbrev pub blank : Part
 blank = record { negative = false; kinds = no_kinds; variable = 0 }
 
+-- before any part it is as if a positive one stood at 0
 abbrev pub no_parts : Parts
-no_parts = record { kept = replicate 12 blank; len = 0; bound = replicate 256 None; positives = 0; kinds = no_kinds; last_negative = None }
+no_parts = record { kept = replicate 12 blank; len = 0; bound = replicate 256 None; positives = 0; kinds = no_kinds; last = Positive 0 }
 
 abbrev pub no_clauses : Clauses
 no_clauses = record { key = false; steps = replicate 47 step.And; used = 0; ends = replicate 24 0; len = 0; tests = 0; negatives = negatives.None }
@@ -61,7 +64,7 @@ with_clauses d cs = record { parts = d.parts; clauses = cs; window = d.window; f
 -- ---- parts
 
 abbrev pub with_kinds : Parts → List Bool → Parts
-with_kinds ps kinds = record { kept = ps.kept; len = ps.len; bound = ps.bound; positives = ps.positives; kinds = kinds; last_negative = ps.last_negative }
+with_kinds ps kinds = record { kept = ps.kept; len = ps.len; bound = ps.bound; positives = ps.positives; kinds = kinds; last = ps.last }
 
 abbrev pub part_begun : Draft → Draft
 part_begun d = with_parts d (with_kinds d.parts no_kinds)
@@ -83,6 +86,15 @@ abbrev pub bound_with : Option Binding → List (Option Binding) → ℕ → Bin
 bound_with None bound letter b = slice_set bound letter (Some b)
 bound_with (Some a) bound letter b = bound
 
+-- a part at this place, as the last one
+abbrev pub last_at : ℕ → Bool → LastPart
+last_at place negative = cond negative (Negative place) (Positive place)
+
+-- whether the last part is negative
+abbrev pub last_negative : LastPart → Bool
+last_negative (Positive place) = false
+last_negative (Negative place) = true
+
 abbrev pub part_kept : Parts → ℕ → Bool → ℕ → Parts
 part_kept ps place negative letter = record {
   kept = kept_with 12 ps.kept ps.len (record { negative = negative; kinds = ps.kinds; variable = letter });
@@ -90,12 +102,12 @@ part_kept ps place negative letter = record {
   bound = bound_with (binding_in ps letter) ps.bound letter (record { part = ps.len; negative = negative });
   positives = cond negative ps.positives (one_more 7 ps.positives);
   kinds = ps.kinds;
-  last_negative = cond negative (Some place) None;
+  last = last_at place negative;
 }
 
 -- a second negative in a row, or a seventh positive
 abbrev pub misplaced_in : Parts → Bool → Bool
-misplaced_in ps negative = cond negative (is_some ps.last_negative) (ps.positives == 6)
+misplaced_in ps negative = cond negative (last_negative ps.last) (ps.positives == 6)
 
 -- a part at this place, with a variable at its own place
 abbrev pub part_ended : Draft → ℕ → Bool → ℕ × ℕ → Draft
@@ -104,12 +116,12 @@ part_ended d place negative v =
     (part_kept d.parts place negative v.0)
 
 -- the last part may not be negative
-abbrev pub parts_ended_by : Option ℕ → Draft → Draft
-parts_ended_by None d = d
-parts_ended_by (Some place) d = with_fault d (Shape place)
+abbrev pub parts_ended_by : LastPart → Draft → Draft
+parts_ended_by (Positive place) d = d
+parts_ended_by (Negative place) d = with_fault d (Shape place)
 
 abbrev pub parts_ended : Draft → Draft
-parts_ended d = parts_ended_by d.parts.last_negative d
+parts_ended d = parts_ended_by d.parts.last d
 
 -- ---- clauses
 
@@ -122,11 +134,11 @@ with_negatives cs ns = record { key = cs.key; steps = cs.steps; used = cs.used; 
 abbrev pub clause_begun : Clauses → Clauses
 clause_begun cs = with_negatives cs negatives.None
 
--- the negative variables that are used, with one more
+-- the negative variables that are used, with one more; of several, the first is known
 abbrev pub negatives_with : Negatives → ℕ → Negatives
 negatives_with negatives.None v = negatives.One v
-negatives_with (negatives.One u) v = cond (u == v) (negatives.One u) negatives.Several
-negatives_with negatives.Several v = negatives.Several
+negatives_with (negatives.One u) v = cond (u == v) (negatives.One u) (negatives.Several u)
+negatives_with (negatives.Several u) v = negatives.Several u
 
 abbrev pub negative_used : Clauses → ℕ → Clauses
 negative_used cs letter = with_negatives cs (negatives_with cs.negatives letter)
@@ -134,7 +146,7 @@ negative_used cs letter = with_negatives cs (negatives_with cs.negatives letter)
 abbrev pub are_several : Negatives → Bool
 are_several negatives.None = false
 are_several (negatives.One v) = false
-are_several negatives.Several = true
+are_several (negatives.Several v) = true
 
 abbrev pub step_kept : Clauses → Step → Clauses
 step_kept cs s = record {

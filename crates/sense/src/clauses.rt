@@ -13,12 +13,12 @@ pub enum Step {
     Or,
 }
 
-// The negative variables that a clause has used so far.
+// The negative variables that a clause has used so far. Of several, the first is known.
 #[derive(Clone, Copy, PartialEq, Eq, Debug)]
 pub enum Negatives {
     None,
     One(u8),
-    Several,
+    Several(u8),
 }
 
 impl Negatives {
@@ -28,7 +28,7 @@ impl Negatives {
         match self {
             Negatives::None => Negatives::One(letter),
             Negatives::One(first) if first == letter => self,
-            Negatives::One(_) | Negatives::Several => Negatives::Several,
+            Negatives::One(first) | Negatives::Several(first) => Negatives::Several(first),
         }
     }
 }

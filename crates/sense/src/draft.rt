@@ -4,7 +4,7 @@ ghost use Rattle.sense.specs.Drafted.{no_draft, with_fault, part_begun, kind_add
 
 use crate::clauses::{Clauses, Negatives, Step};
 use crate::fault::{SenseFault, earlier};
-use crate::parts::Parts;
+use crate::parts::{LastPart, Parts};
 use events::Kind;
 use grammar::{Item, Name, Side, Test};
 
@@ -69,7 +69,7 @@ impl Draft {
     pub fn end_parts(&mut self)
         ensures { self.new ≡ parts_ended self.old }
     {
-        if let Some(place) = self.parts.last_negative {
+        if let LastPart::Negative(place) = self.parts.last {
             self.note(SenseFault::Shape(place));
         }
     }
@@ -90,7 +90,7 @@ impl Draft {
     pub fn end_clause(&mut self, place: usize)
         ensures { self.new ≡ clause_ended self.old place }
     {
-        if self.clauses.negatives == Negatives::Several {
+        if matches!(self.clauses.negatives, Negatives::Several(_)) {
             self.note(SenseFault::TwoNegatives(place));
         }
         self.clauses.keep_end();

@@ -16,4 +16,4 @@ pub use draft::Draft;
 pub use fault::SenseFault;
 pub use law::sense_holds;
 pub use part::Part;
-pub use parts::{BLANK, Binding, Parts};
+pub use parts::{BLANK, Binding, LastPart, Parts};

@@ -14,6 +14,13 @@ pub struct Binding {
     pub negative: bool,
 }
 
+// The part that was read last, by whether it is negative, with its place.
+#[derive(Clone, Copy, PartialEq, Eq, Debug)]
+pub enum LastPart {
+    Positive(usize),
+    Negative(usize),
+}
+
 #[derive(Clone, Copy)]
 pub struct Parts {
     // the first 12, in a room with a length, since libraries use no heap (room.rt)
@@ -25,8 +32,8 @@ pub struct Parts {
     pub positives: u8,
     // the kinds of the part that is being read
     pub kinds: [bool; 16],
-    // the place of the last part, if that one is negative
-    pub last_negative: Option<usize>,
+    // before any part it is as if a positive one stood at 0
+    pub last: LastPart,
 }
 
 // What stands where no part is.
@@ -46,7 +53,7 @@ impl Parts {
             bound: [None; 256],
             positives: 0,
             kinds: [false; 16],
-            last_negative: None,
+            last: LastPart::Positive(0),
         }
     }
 
@@ -62,7 +69,7 @@ impl Parts {
         ensures { result ≡ misplaced_in self.now negative }
     {
         if negative {
-            self.last_negative.is_some()
+            matches!(self.last, LastPart::Negative(_))
         } else {
             self.positives == 6
         }
@@ -98,6 +105,10 @@ impl Parts {
         if !negative && self.positives < 7 {
             self.positives += 1;
         }
-        self.last_negative = negative.then_some(place);
+        self.last = if negative {
+            LastPart::Negative(place)
+        } else {
+            LastPart::Positive(place)
+        };
     }
 }

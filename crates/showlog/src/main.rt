@@ -16,5 +16,6 @@ fn main(rt: HostRuntime) -> anyhow::Result<()> {
 }
 
 fn run(rt: &HostRuntime) -> anyhow::Result<()> {
-    show(rt.alloc(), &mut rt.stdin(), &mut rt.stdout(), CHUNK)
+    let mut chunk = vec![in rt.alloc(); 0u8; CHUNK]?;
+    show(rt.alloc(), &mut rt.stdin(), &mut rt.stdout(), &mut chunk)
 }

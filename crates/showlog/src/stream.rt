@@ -1,27 +1,29 @@
 // A log as a stream: it is read and described in chunks, so that memory does not grow with it.
+ghost use Rattle.std.specs.Prelude.{◌≤◌, length, IfOk};
+
 use crate::lines::End;
 use crate::text::describe;
 use std::alloc::Global;
+use std::io;
 use std::io::{Read, Write};
 
-// Describes the log that `input` gives, through chunks of `size` bytes, which are whole records.
+// Describes the log that `input` gives, through a chunk that has room for whole records alone. A lent chunk, so that no code here can hold more of
+// the log at a time.
 pub fn show(
     heap: Global,
     input: &mut impl Read,
     out: &mut impl Write,
-    size: usize,
+    chunk: &mut [u8],
 ) -> anyhow::Result<()> {
-    let mut chunk = Vec::new(heap);
     let mut text = String::new(heap);
     let mut records = 0;
     // until the input ends: a loop has a bound here
     for _ in 0..u64::MAX {
-        chunk.clear();
-        let filled = input.by_ref().take(size as u64).read_to_end(&mut chunk)?;
+        let filled = fill(input, chunk)?;
         text.clear();
-        records = describe(&mut text, chunk.as_slice(), records)?;
+        records = describe(&mut text, &chunk[..filled], records)?;
         out.write_all(text.as_bytes())?;
-        if filled < size {
+        if filled < chunk.len() {
             break;
         }
     }
@@ -30,11 +32,27 @@ pub fn show(
     Ok(())
 }
 
+// Reads until the buffer is full or the input ends, and answers how many bytes there are. By hand: `read_exact` loses their number where the input
+// ends, and of `take` with `read_to_end` no contract says that they are no more than the room.
+fn fill(input: &mut impl Read, buffer: &mut [u8]) -> io::Result<usize>
+    ensures { IfOk result (λ n. n ≤ length buffer.old) }
+{
+    let mut filled = 0;
+    while filled < buffer.len() {
+        let count = input.read(&mut buffer[filled..])?;
+        if count == 0 {
+            break;
+        }
+        filled += count;
+    }
+    Ok(filled)
+}
+
 #[cfg(test)]
 mod tests {
     use super::*;
+    use std::array;
     use std::test::Fail;
-    use std::{array, io};
 
     // Gives at most `most` bytes at a call.
     #[derive(Drop)]
@@ -71,7 +89,7 @@ mod tests {
         for (len, last) in LENGTHS {
             assert!(rt; len <= log.len());
             let mut whole = Vec::new(heap);
-            show(heap, &mut &log[0..len], &mut whole, 240)?;
+            show(heap, &mut &log[0..len], &mut whole, &mut [0; 240])?;
             assert!(rt; whole.ends_with(last.as_bytes()));
             for most in [1, 7, 24, 47, 100] {
                 let mut pieces = Vec::new(heap);
@@ -79,7 +97,7 @@ mod tests {
                     rest: &log[0..len],
                     most,
                 };
-                show(heap, &mut input, &mut pieces, 48)?;
+                show(heap, &mut input, &mut pieces, &mut [0; 48])?;
                 assert!(rt; pieces.as_slice() == whole.as_slice());
             }
         }

@@ -11,4 +11,4 @@ pub returns-in-Some-clause-value : goal.returns-in-Some-clause-value
 returns-in-Some-clause-value g c = knows _ _ c.in_ok-token.ensures.value c.in-Some.ensures
 
 pub returns-clause-value : goal.returns-clause-value
-returns-clause-value g c = wrong _ c.in_ok-token.ensures.value c.in-None.ensures
+returns-clause-value g c = wrong _ _ c.in_ok-token.ensures.value c.in-None.ensures

@@ -1,6 +1,6 @@
 use Rattle.std.proofs.Common.{rules}
 use Rattle.grammar.proofs.Steps.{first_at}
-use Rattle.grammar.proofs.tested.read_test.Goals as goal
+use Rattle.grammar.proofs.tested.read_whole.Goals as goal
 
 pub returns : goal.returns
 returns c =
