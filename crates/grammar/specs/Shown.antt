@@ -45,12 +45,13 @@ pub record GoesOnAs {X Y : Type 0} (f : X → Y) (p : ℕ → List Placed → Re
 abbrev pub GoesOn : {X : Type 0} → (ℕ → List Placed → Read X) → Tokens → Result X GrammarFault → Tokens → Type 0
 GoesOn p s r t = GoesOnAs (λ x. x) p s r t
 
--- likewise, and if it gives a fault, it took none
+-- likewise, told by f, and if it gives a fault, it took none
 pub record TakesAs {X Y : Type 0} (f : X → Y) (p : ℕ → List Placed → Read Y) (s : Tokens) (r : Result X GrammarFault) (t : Tokens) : Type 0 where
   pub value : shown_by f r t ≡ p (end_of s) (ahead s)
   pub onward : IfOk r (λ x. Onward s t)
   pub back : OnErr r (t ≡ s)
 
+-- likewise, told as it is
 abbrev pub Takes : {X : Type 0} → (ℕ → List Placed → Read X) → Tokens → Result X GrammarFault → Tokens → Type 0
 Takes p s r t = TakesAs (λ x. x) p s r t
 

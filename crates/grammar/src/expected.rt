@@ -1,4 +1,4 @@
-// Single tokens: each of these takes one off the front of those that lie ahead, or finds a fault and takes none.
+// Single tokens: each of these looks at the first of those that lie ahead, or takes it; with a fault it takes none.
 ghost use Rattle.std.specs.Prelude.{◌≡◌, IfOk, OnErr};
 ghost use Rattle.grammar.specs.Known.{variable_of, reading_of, kind_of, number_of, comparison_of};
 ghost use Rattle.grammar.specs.Reading.{fixed, expect};
@@ -50,7 +50,8 @@ pub fn skip<W: Wanted>(tokens: &mut Tokens, wanted: W) -> bool
     }
 }
 
-// Takes what is wanted, if it comes next: the place of the next token, and whether it was taken.
+// Takes what is wanted, if it comes next: the place of the next token, and whether it was taken. Beside `skip`, which has no place to give where there
+// is no token.
 pub fn look_for<W: Wanted>(tokens: &mut Tokens, wanted: W) -> Result<(usize, bool), GrammarFault>
     ensures { Looks (W.test wanted) tokens.old result tokens.new }
 {
@@ -63,8 +64,8 @@ pub fn look_for<W: Wanted>(tokens: &mut Tokens, wanted: W) -> Result<(usize, boo
     Ok((token.place, found))
 }
 
-// A token that `know` knows: what it is, and its place. Here and at `next` the clause `onward` stands by itself, since `Takes` wants a reader of the
-// specs.
+// A token that `know` knows: what it is, and its place. Here and at `next` the clauses `onward` and `back` stand by themselves, since `Takes` wants a
+// reader of the specs.
 fn expect_known<'a, T: Drop, F: Fn(Token<'a>) -> Option<T> + Drop>(
     tokens: &mut Tokens<'a>,
     know: F,

@@ -75,6 +75,7 @@ fn read_side(tokens: &mut Tokens) -> Result<Side<Name>, GrammarFault>
     read_side_from(left, tokens)
 }
 
+// As `read_test`, but where it finds a fault the tokens may stand anywhere.
 fn read_whole(tokens: &mut Tokens) -> Result<(Test<Name>, usize), GrammarFault>
     ensures { GoesOnAs as_written test_at tokens.old result tokens.new }
 {

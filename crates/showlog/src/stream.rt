@@ -7,8 +7,8 @@ use std::alloc::Global;
 use std::io;
 use std::io::{Read, Write};
 
-// Describes the log that `input` gives, through a chunk that has room for whole records alone. A lent chunk, so that no code here can hold more of
-// the log at a time.
+// Describes the log that `input` gives, through a chunk that has room for whole records alone. The chunk is lent, and what `fill` reads is proved to
+// be no longer.
 pub fn show(
     heap: Global,
     input: &mut impl Read,
